@@ -1,0 +1,181 @@
+-- Laws of lists as finite sets.
+-- Assumes nothing.
+use mathlib.Core.Path.{_≡_, refl, sym, ap, ap₂, subst}
+use mathlib.Core.Logic.{_⊎_, inl, inr, ⊎-elim, ite, _↔_}
+use mathlib.Core.List.{List, [], _∷_}
+use Prim.Native.Nat.{ℕ, zero, suc, _+_, _≤_, _<_}
+use native.Mathlib.Nat.{not-suc-le-zero}
+use native.Mathlib.Decide.{ℕ-discrete}
+use native.Mathlib.Omega.{arith}
+use lib.ListN.{length, getD}
+use Rattle.chain.specs.Search.{First, first}
+use Rattle.chain.specs.Lists.{Mem, Each, table, keep, from, Ascending, index}
+use Rattle.chain.proofs.Search.{below-cases}
+
+-- ---- members
+
+module _ {A : Type 0} where
+  pub each-map₂ : {P Q R : A → Type 0} → ((x : A) → P x → Q x → R x) → (xs : List A) → Each P xs → Each Q xs → Each R xs
+  each-map₂ f [] h g = tt
+  each-map₂ f (x ∷ xs) h g = (f x (h .0) (g .0), each-map₂ f xs (h .1) (g .1))
+
+  pub each-map₃ : {P Q R S : A → Type 0} → ((x : A) → P x → Q x → R x → S x) → (xs : List A) → Each P xs → Each Q xs → Each R xs → Each S xs
+  each-map₃ f [] h g k = tt
+  each-map₃ f (x ∷ xs) h g k = (f x (h .0) (g .0) (k .0), each-map₃ f xs (h .1) (g .1) (k .1))
+
+  pub each-mem : (P : A → Type 0) (xs : List A) → Each P xs → (x : A) → Mem x xs → P x
+  each-mem P [] h x m = absurd m
+  each-mem P (y ∷ ys) h x (inl e) = subst P (sym e) (h .0)
+  each-mem P (y ∷ ys) h x (inr m) = each-mem P ys (h .1) x m
+
+  pub mem-each : {P : A → Type 0} (xs : List A) → ((x : A) → Mem x xs → P x) → Each P xs
+  mem-each [] h = tt
+  mem-each (x ∷ xs) h = (h x (inl refl), mem-each xs (λ y m. h y (inr m)))
+
+  pub mem-at : (xs : List A) (k : ℕ) (d : A) → k < length xs → Mem (getD xs k d) xs
+  mem-at [] k d h = absurd (not-suc-le-zero h)
+  mem-at (x ∷ xs) zero d h = inl refl
+  mem-at (x ∷ xs) (suc k) d h = inr (mem-at xs k d (omega arith))
+
+  pub at-mem : (xs : List A) (d x : A) → Mem x xs → (k : ℕ) × (k < length xs) × (getD xs k d ≡ x)
+  at-mem [] d x m = absurd m
+  at-mem (y ∷ ys) d x (inl e) = (0, omega arith, sym e)
+  at-mem (y ∷ ys) d x (inr m) = let w = at-mem ys d x m in (suc (w .0), omega arith, w .2)
+
+  -- ---- tables
+
+  pub length-table : (f : ℕ → A) (n : ℕ) → length (table f n) ≡ n
+  unfolding table
+  length-table f zero = refl
+  length-table f (suc n) = ap suc (length-table (λ i. f (suc i)) n)
+
+  pub getD-table : (f : ℕ → A) (n i : ℕ) (d : A) → i < n → getD (table f n) i d ≡ f i
+  unfolding table
+  getD-table f zero i d h = absurd (not-suc-le-zero h)
+  getD-table f (suc n) zero d h = refl
+  getD-table f (suc n) (suc i) d h = getD-table (λ j. f (suc j)) n i d (omega arith)
+
+  pub each-table : (P : A → Type 0) (f : ℕ → A) (n : ℕ) → ((i : ℕ) → P (f i)) → Each P (table f n)
+  unfolding table
+  each-table P f zero h = tt
+  each-table P f (suc n) h = (h zero, each-table P (λ i. f (suc i)) n (λ i. h (suc i)))
+
+  -- ---- the members that pass
+
+  module _ {P : A → Type 0} (p : (x : A) → Dec (P x)) where
+    pub mem-keep : (xs : List A) (x : A) → Mem x (keep p xs) → Mem x xs × P x
+    unfolding keep
+    mem-keep [] x m = absurd m
+    mem-keep (y ∷ ys) x m = go (p y) (mem-keep ys x) m
+      where
+        go : (d : Dec (P y)) → (Mem x (keep p ys) → Mem x ys × P x) → Mem x (ite {C = List A} d (y ∷ keep p ys) (keep p ys)) → Mem x (y ∷ ys) × P x
+        go (yes q) f (inl e) = (inl e, subst P (sym e) q)
+        go (yes q) f (inr n) = (inr (f n .0), f n .1)
+        go (no _) f n = (inr (f n .0), f n .1)
+
+    pub keep-mem : (xs : List A) (x : A) → Mem x xs → P x → Mem x (keep p xs)
+    unfolding keep
+    keep-mem [] x m q = absurd m
+    keep-mem (y ∷ ys) x m q = go (p y) (keep-mem ys x) m
+      where
+        go : (d : Dec (P y)) → (Mem x ys → P x → Mem x (keep p ys)) → Mem x (y ∷ ys) → Mem x (ite {C = List A} d (y ∷ keep p ys) (keep p ys))
+        go (yes _) f (inl e) = inl e
+        go (yes _) f (inr n) = inr (f n q)
+        go (no n) f (inl e) = absurd (n (subst P e q))
+        go (no n) f (inr k) = f k q
+
+    -- all pass, or fewer are kept
+    keep-le : (xs : List A) → length (keep p xs) ≤ length xs
+    unfolding keep
+    keep-le [] = omega arith
+    keep-le (x ∷ xs) = go (p x) (keep-le xs)
+      where
+        go : (d : Dec (P x)) → length (keep p xs) ≤ length xs → length (ite {C = List A} d (x ∷ keep p xs) (keep p xs)) ≤ length (x ∷ xs)
+        go (yes _) h = omega arith
+        go (no _) h = omega arith
+
+    pub keep-less : (xs : List A) → Each P xs ⊎ (length (keep p xs) < length xs)
+    unfolding keep
+    keep-less [] = inl tt
+    keep-less (x ∷ xs) = go (p x) (keep-less xs)
+      where
+        go : (d : Dec (P x)) → Each P xs ⊎ (length (keep p xs) < length xs)
+            → Each P (x ∷ xs) ⊎ (length (ite {C = List A} d (x ∷ keep p xs) (keep p xs)) < length (x ∷ xs))
+        go (yes q) (inl h) = inl (q, h)
+        go (yes q) (inr l) = inr (omega arith)
+        go (no n) h = inr (omega (arith, keep-le xs))
+
+-- ---- where a number stands
+
+pub index-lt : (xs : List ℕ) (x : ℕ) → 0 < length xs → index xs x < length xs
+unfolding index
+index-lt xs x h = go (first (λ k. ℕ-discrete (getD xs k 0) x) (length xs))
+  where
+    go : (w : First (λ k. ℕ-discrete (getD xs k 0) x) (length xs)) → ⊎-elim (λ u. u .0) (λ _. 0) w < length xs
+    go (inl w) = w .1
+    go (inr _) = h
+
+pub at-index : (xs : List ℕ) (x : ℕ) → Mem x xs → getD xs (index xs x) 0 ≡ x
+unfolding index
+at-index xs x m = go (first (λ k. ℕ-discrete (getD xs k 0) x) (length xs))
+  where
+    go : (w : First (λ k. ℕ-discrete (getD xs k 0) x) (length xs)) → getD xs (⊎-elim (λ u. u .0) (λ _. 0) w) 0 ≡ x
+    go (inl w) = w .2
+    go (inr f) = let u = at-mem xs 0 x m in absurd (f (u .0) (u .1) (u .2))
+
+-- ---- n numbers from a on
+
+pub length-from : (a n : ℕ) → length (from a n) ≡ n
+unfolding from
+length-from a zero = refl
+length-from a (suc n) = ap suc (length-from (suc a) n)
+
+pub mem-from : (a n x : ℕ) → Mem x (from a n) → (a ≤ x) × (x < a + n)
+unfolding from
+mem-from a zero x m = absurd m
+mem-from a (suc n) x (inl e) = omega arith
+mem-from a (suc n) x (inr m) = let h = mem-from (suc a) n x m in omega arith
+
+pub from-mem : (a n x : ℕ) → a ≤ x → x < a + n → Mem x (from a n)
+unfolding from
+from-mem a zero x h l = absurd (omega arith)
+from-mem a (suc n) x h l = ⊎-elim (λ e. inl (sym e)) (λ k. inr (from-mem (suc a) n x k (omega arith))) (below-cases x a (omega arith))
+
+-- ---- ascending lists
+
+pub ascending-weaken : (a b : ℕ) → a ≤ b → (xs : List ℕ) → Ascending b xs → Ascending a xs
+ascending-weaken a b h [] s = tt
+ascending-weaken a b h (x ∷ xs) s = (omega arith, s .1)
+
+pub ascending-from : (a n : ℕ) → Ascending a (from a n)
+unfolding from
+ascending-from a zero = tt
+ascending-from a (suc n) = (omega arith, ascending-from (suc a) n)
+
+pub ascending-mem : (b : ℕ) (xs : List ℕ) → Ascending b xs → (x : ℕ) → Mem x xs → b ≤ x
+ascending-mem b [] s x m = absurd m
+ascending-mem b (y ∷ ys) s x (inl e) = omega arith
+ascending-mem b (y ∷ ys) s x (inr m) = omega (arith, ascending-mem (suc y) ys (s .1) x m)
+
+pub ascending-keep : {P : ℕ → Type 0} (p : (x : ℕ) → Dec (P x)) (b : ℕ) (xs : List ℕ) → Ascending b xs → Ascending b (keep p xs)
+unfolding keep
+ascending-keep p b [] s = tt
+ascending-keep {P} p b (x ∷ xs) s = go (p x) (ascending-keep p (suc x) xs (s .1))
+  where
+    go : (d : Dec (P x)) → Ascending (suc x) (keep p xs) → Ascending b (ite {C = List ℕ} d (x ∷ keep p xs) (keep p xs))
+    go (yes _) t = (s .0, t)
+    go (no _) t = ascending-weaken b (suc x) (omega arith) (keep p xs) t
+
+-- an ascending list is known by its members
+pub ascending-same : (b : ℕ) (xs ys : List ℕ) → Ascending b xs → Ascending b ys → ((c : ℕ) → Mem c xs ↔ Mem c ys) → xs ≡ ys
+ascending-same b [] [] s t e = refl
+ascending-same b [] (y ∷ ys) s t e = absurd (e y .1 (inl refl))
+ascending-same b (x ∷ xs) [] s t e = absurd (e x .0 (inl refl))
+ascending-same b (x ∷ xs) (y ∷ ys) s t e =
+    let head : x ≡ y = ⊎-elim (λ q. q) (λ m. ⊎-elim (λ q. sym q) (λ n.
+    absurd (omega (arith, ascending-mem (suc y) ys (t .1) x m, ascending-mem (suc x) xs (s .1) y n))) (e y .1 (inl refl))) (e x .0 (inl refl)) in
+    ap₂ {C = List ℕ} _∷_ head
+    (ascending-same (suc x) xs ys (s .1) (subst (λ (z : ℕ). Ascending (suc z) ys) (sym head) (t .1)) (λ c. (
+      λ m. ⊎-elim (λ q. absurd (omega (arith, ascending-mem (suc x) xs (s .1) c m))) (λ n. n) (e c .0 (inr m)),
+      λ m. ⊎-elim (λ q. absurd (omega (arith, ascending-mem (suc y) ys (t .1) c m))) (λ n. n) (e c .1 (inr m)),
+    )))

@@ -1,0 +1,31 @@
+-- Decisions of compound facts. A notion is a type, and its test is a `Dec` of that type: so each notion is written once, and no lemma has to
+-- tie a test to its meaning.
+-- Assumes nothing.
+
+unfoldable pub dec-and : {A B : Type 0} → Dec A → Dec B → Dec (A × B)
+dec-and (yes a) (yes b) = yes (a, b)
+dec-and (yes a) (no n) = no (λ p. n (p .1))
+dec-and (no n) d = no (λ p. n (p .0))
+
+unfoldable pub dec-imp : {A B : Type 0} → Dec A → Dec B → Dec (A → B)
+dec-imp (yes a) (yes b) = yes (λ _. b)
+dec-imp (yes a) (no n) = no (λ f. n (f a))
+dec-imp (no n) d = yes (λ a. absurd (n a))
+
+unfoldable pub dec-not : {A : Type 0} → Dec A → Dec (¬ A)
+dec-not (yes a) = no (λ n. n a)
+dec-not (no n) = yes n
+
+-- a fact that holds exactly when one that is decided does
+unfoldable pub dec-map : {A B : Type 0} → (A → B) → (B → A) → Dec A → Dec B
+dec-map f g (yes a) = yes (f a)
+dec-map f g (no n) = no (λ b. n (g b))
+
+-- a closed decision that computes to `yes` proves its fact: `passed (..) tt`
+abbrev pub Passed : {A : Type 0} → Dec A → Type 0
+Passed (yes a) = Unit {0}
+Passed (no n) = ⊥
+
+pub passed : {A : Type 0} (d : Dec A) → Passed d → A
+passed (yes a) t = a
+passed (no n) t = absurd t

@@ -1,0 +1,5 @@
+pub mod Decisions
+pub mod Search
+pub mod Lists
+pub mod Digits
+pub mod Connectives

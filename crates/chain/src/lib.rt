@@ -1,0 +1,1 @@
+// The chain of grades and the connectives on it: definitions in specs/, their laws in proofs/.

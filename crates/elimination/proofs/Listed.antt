@@ -1,0 +1,97 @@
+-- Theorem B. If any candidate survives, the interpretation of the listed types gives each element its listed type and meets every rule,
+-- wherever the individuals sit.
+-- Assumes nothing.
+use mathlib.Core.Path.{_≡_, refl, sym, ap, subst, _∙_}
+use mathlib.Core.Logic.{⊎-elim, inl, inr, _↔_}
+use mathlib.Core.List.{List}
+use Prim.Native.Nat.{ℕ, _≤_, _<_}
+use native.Mathlib.Omega.{arith}
+use lib.ListN.{length}
+use Rattle.chain.specs.Search.{First}
+use Rattle.chain.specs.Lists.{Each}
+use Rattle.chain.specs.Connectives.{Quantifier, existential, universal, through, Within, over}
+use Rattle.chain.proofs.Lists.{mem-at, at-mem, each-mem, mem-each}
+use Rattle.chain.proofs.Connectives.{within-antisymm, over-upper, over-least}
+use Rattle.semantics.specs.Terms.{Term, name, not, and, or, some, all, top, bottom, term, local}
+use Rattle.semantics.specs.Quantified.{quantified}
+use Rattle.semantics.specs.Interpretations.{Grading, WellFormed, OnChain, atElements}
+use Rattle.semantics.specs.Books.{Rule, RuleInRange, RuleModel}
+use Rattle.semantics.specs.Candidates.{gradeIn, named?, bearer, candidates, HasType}
+use Rattle.semantics.specs.Links.{link}
+use Rattle.semantics.proofs.Interpretations.{gradeAt-unique}
+use Rattle.semantics.proofs.Candidates.{gradeIn-le, gradeIn-local, gradeIn-name, typeOf-only}
+use Rattle.semantics.proofs.Links.{link-le, link-bounded}
+use Rattle.elimination.specs.Survivors.{survivors, Survives}
+use Rattle.elimination.specs.Listed.{listed, listedTypes, Occurs}
+use Rattle.elimination.proofs.Survivors.{survivors-sound}
+use Rattle.elimination.proofs.Complete.{complete}
+
+module _ (G : Grading) (rs : List Rule) (w : WellFormed G) (some-left : 0 < length (survivors G rs)) (seat : ℕ → ℕ) where
+  abbrev n : ℕ
+  n = length (survivors G rs)
+
+  -- a quantified term of a listed type comes to its grade over the listed types: a witness reaches it, and no link passes it
+  listed-quantified : (i : ℕ) → i < length (G .terms) → (e : ℕ) → e < n → (q : Quantifier) (r x : ℕ) → term (G .terms) i ≡ quantified q r x
+      → gradeIn G (listed G rs e) i ≡ over q (G .steps) (λ f. through (G .connectives) q (link G r (listed G rs e) (listed G rs f)) (gradeIn G (listed G rs f) x)) n
+  listed-quantified i l e h q r x t =
+      let c : ℕ = listed G rs e in
+      let f : ℕ → ℕ = λ f. through (G .connectives) q (link G r c (listed G rs f)) (gradeIn G (listed G rs f) x) in
+      let u = survivors-sound G rs .fits c (mem-at (survivors G rs) e 0 h) .1 i l q r x t in
+      let v = at-mem (survivors G rs) 0 (u .0) (u .1) in
+      within-antisymm q
+      (subst (λ (y : ℕ). Within q y (over q (G .steps) f n))
+      (ap (λ (d : ℕ). through (G .connectives) q (link G r c d) (gradeIn G d x)) (v .2) ∙ sym (u .2))
+      (over-upper q (G .steps) f n (v .0) (v .1)))
+      (over-least q (G .steps) f n (gradeIn G c i) (gradeIn-le G w c i l) (λ g k. link-bounded G r c (listed G rs g) w i l q x t))
+
+  -- THEOREM B: each element has its listed type
+  pub listed-has : (e : ℕ) → e < n → HasType G (listedTypes G rs seat) e (listed G rs e)
+  listed-has e h i l =
+      sym (gradeAt-unique G (listedTypes G rs seat) w (λ j f. gradeIn G (listed G rs f) j) (λ j k f g. go j k f g (term (G .terms) j) refl) i l e h)
+    where
+      go : (i : ℕ) → i < length (G .terms) → (e : ℕ) → e < n → (t : Term) → term (G .terms) i ≡ t
+          → gradeIn G (listed G rs e) i ≡ local (atElements G (listedTypes G rs seat)) i t (λ j f. gradeIn G (listed G rs f) j) e
+      go i l e h (name a) t = gradeIn-name G w (listed G rs e) i a l t
+      go i l e h (not x) t = gradeIn-local G w (listed G rs e) i l (not x) t
+      go i l e h (and x y) t = gradeIn-local G w (listed G rs e) i l (and x y) t
+      go i l e h (or x y) t = gradeIn-local G w (listed G rs e) i l (or x y) t
+      go i l e h (some r x) t = listed-quantified i l e h existential r x t
+      go i l e h (all r x) t = listed-quantified i l e h universal r x t
+      go i l e h top t = gradeIn-local G w (listed G rs e) i l top t
+      go i l e h bottom t = gradeIn-local G w (listed G rs e) i l bottom t
+
+  module _ (in-range : Each (RuleInRange G) rs) (seated : (j : ℕ) → seat j < n) where
+    listed-on-chain : OnChain (G .steps) (listedTypes G rs seat)
+    listed-on-chain = record {
+      inhabited = some-left;
+      names-le = λ a e h. go e (bearer (G .terms) a);
+      links-le = λ r e f g h. link-le G r (listed G rs e) (listed G rs f);
+      element-lt = seated;
+    }
+      where
+        go : (e : ℕ) {a : ℕ} (v : First (named? (G .terms) a) (length (G .terms))) → ⊎-elim (λ u. gradeIn G (listed G rs e) (u .0)) (λ _. 0) v ≤ G .steps
+        go e (inl u) = gradeIn-le G w (listed G rs e) (u .0) (u .1)
+        go e (inr f) = omega arith
+
+    -- .. and the interpretation meets every rule
+    pub listed-meets : RuleModel G rs (listedTypes G rs seat)
+    listed-meets = record {
+      on-chain = listed-on-chain;
+      rules-met = mem-each rs (λ q m e h.
+          let k = each-mem (RuleInRange G) rs in-range q m in
+          rw (listed-has e h (q .left) (k .0), listed-has e h (q .right) (k .1))
+          (each-mem (λ o. gradeIn G (listed G rs e) (o .left) ≤ gradeIn G (listed G rs e) (o .right)) rs
+          (survivors-sound G rs .fits (listed G rs e) (mem-at (survivors G rs) e 0 h) .0) q m));
+    }
+
+-- ---- with Theorem A: the survivors are exactly the types that an element has in some model of the rules
+
+pub survives-realised : (G : Grading) (rs : List Rule) → WellFormed G → Each (RuleInRange G) rs → (c : ℕ) → Survives G rs c ↔ ((c < candidates G) × Occurs G rs c)
+survives-realised G rs w in-range c = (
+  λ m.
+      let u = at-mem (survivors G rs) 0 c m in
+      let h : 0 < length (survivors G rs) = omega (arith, u .1) in
+      let I = listedTypes G rs (λ _. 0) in
+      (survivors-sound G rs .candidate c m, (I, listed-meets G rs w h (λ _. 0) in-range (λ _. h), u .0, u .1, subst (HasType G I (u .0)) (u .2) (listed-has G rs w h (λ _. 0) (u .0) (u .1)))),
+  λ (l, (I, m, e, h, t)). subst (Survives G rs) (sym (typeOf-only G w I (m .on-chain) e h c l t)) (complete G rs w in-range I m e h),
+)

@@ -1,0 +1,181 @@
+-- Theorem C. The outcome says which models there are: outcome 1 if and only if some finite interpretation meets rules and claims, 2 if and
+-- only if the rules have a model but none meets the claims, 3 if and only if the rules have none.
+-- Assumes nothing.
+use mathlib.Core.Path.{_≡_, refl, ap, subst}
+use mathlib.Core.Logic.{_⊎_, inl, inr, ⊎-elim, _↔_}
+use mathlib.Core.Option.{Option, none, some}
+use mathlib.Core.List.{List, [], _∷_}
+use Prim.Native.Nat.{ℕ, _≤_, _<_}
+use native.Mathlib.Nat.{le-trans}
+use native.Mathlib.Omega.{arith}
+use lib.ListN.{length}
+use Rattle.chain.specs.Lists.{Each, table, index}
+use Rattle.chain.proofs.Lists.{mem-at, at-mem, each-mem, each-map₂, each-map₃, length-table, getD-table, each-table, index-lt, at-index}
+use Rattle.semantics.specs.Interpretations.{Grading}
+use Rattle.semantics.specs.Books.{Book, MembershipClaim, LinkClaim, aboveMemberships, aboveLinks, individuals, Valid, MeetsMembership, MeetsLink, RuleModel, MeetsClaims, RulesSatisfiable, Satisfiable}
+use Rattle.semantics.specs.Candidates.{typeOf}
+use Rattle.semantics.proofs.Candidates.{typeOf-has}
+use Rattle.elimination.specs.Survivors.{Survives}
+use Rattle.elimination.specs.Listed.{listed, listedTypes}
+use Rattle.elimination.proofs.Survivors.{survivors-ascending}
+use Rattle.elimination.proofs.Complete.{complete, link-of-types}
+use Rattle.elimination.proofs.Listed.{listed-has, listed-meets}
+use Rattle.placement.specs.Dictionary.{Drawn, Foremost, Nowhere, Finds}
+use Rattle.placement.specs.Outcome.{seat, survivorsOf, HoldsMembership, HoldsLink, HoldsAt, holds?, placement, outcomeOf, outcome, placedTypes}
+use Rattle.placement.proofs.Dictionary.{seek-finds}
+
+-- every claim is about an individual of the book
+memberships-below : (qs : List MembershipClaim) (n : ℕ) → aboveMemberships qs ≤ n → Each (λ q. q .individual < n) qs
+memberships-below [] n h = tt
+memberships-below (q ∷ qs) n h = (omega arith, memberships-below qs n (omega arith))
+
+links-below : (qs : List LinkClaim) (n : ℕ) → aboveLinks qs ≤ n → Each (λ q. (q .source < n) × (q .target < n)) qs
+links-below [] n h = tt
+links-below (q ∷ qs) n h = ((omega arith, omega arith), links-below qs n (omega arith))
+
+module _ (B : Book) where
+  abbrev G : Grading
+  G = B .grading
+
+  -- the placement is the first at survivors that meets the claims, or there is none
+  pub placement-finds : Finds (survivorsOf B) (individuals B) (HoldsAt B) (placement B)
+  unfolding placement
+  placement-finds = seek-finds (λ p. holds? B (seat p)) (survivorsOf B) (survivors-ascending G (B .rules)) (individuals B)
+
+  pub placement-first : (p : List ℕ) → placement B ≡ some p → Foremost (survivorsOf B) (individuals B) (HoldsAt B) p
+  placement-first p e = subst (Finds (survivorsOf B) (individuals B) (HoldsAt B)) e placement-finds
+
+  pub placement-nowhere : placement B ≡ none → Nowhere (survivorsOf B) (individuals B) (HoldsAt B)
+  placement-nowhere e = subst (Finds (survivorsOf B) (individuals B) (HoldsAt B)) e placement-finds
+
+  -- a placement at survivors that meets the claims
+  abbrev pub Placed : List ℕ → Type 0
+  Placed p = Drawn (survivorsOf B) (individuals B) p × HoldsAt B p
+
+  -- outcome 1 comes with survivors and a placement
+  pub outcome-placed : outcome B ≡ 1 → (0 < length (survivorsOf B)) × ((p : List ℕ) × (placement B ≡ some p) × Placed p)
+  unfolding outcome
+  outcome-placed = go (survivorsOf B) refl (placement B) refl placement-finds
+    where
+      go : (xs : List ℕ) → survivorsOf B ≡ xs → (o : Option (List ℕ)) → placement B ≡ o → Finds (survivorsOf B) (individuals B) (HoldsAt B) o
+          → outcomeOf B xs o ≡ 1 → (0 < length (survivorsOf B)) × ((p : List ℕ) × (placement B ≡ some p) × Placed p)
+      go [] e o d f h = absurd (omega arith)
+      go (c ∷ cs) e none d f h = absurd (omega arith)
+      go (c ∷ cs) e (some p) d f h = (omega (arith, ap length e), (p, d, (f .drawn, f .passes)))
+
+  module _ (w : Valid B) where
+    members-in : Each (λ q. q .individual < individuals B) (B .memberships)
+    members-in = memberships-below (B .memberships) (individuals B) (omega arith)
+
+    links-in : Each (λ q. (q .source < individuals B) × (q .target < individuals B)) (B .links)
+    links-in = links-below (B .links) (individuals B) (omega arith)
+
+    -- the rules have a model if and only if a candidate survives
+    pub rules-satisfiable : RulesSatisfiable B ↔ (0 < length (survivorsOf B))
+    rules-satisfiable = (
+      λ m. omega (arith, at-mem (survivorsOf B) 0 (typeOf G (m .0) 0) (complete G (B .rules) (w .well-formed) (w .rules-in) (m .0) (m .1) 0 (m .1 .on-chain .inhabited)) .1),
+      λ h. (listedTypes G (B .rules) (λ _. 0), listed-meets G (B .rules) (w .well-formed) h (λ _. 0) (w .rules-in) (λ _. h)),
+    )
+
+    -- from a model: each individual at the type of its element
+    pub model-placed : Satisfiable B → (p : List ℕ) × Placed p
+    model-placed m =
+        let I = m .0 in
+        let c = m .1 .on-chain in
+        let t : ℕ → ℕ = λ j. typeOf G I (I .element j) in
+        let n = individuals B in (
+          table t n,
+          (
+            (length-table t n, each-table (Survives G (B .rules)) t n (λ j. complete G (B .rules) (w .well-formed) (w .rules-in) I (m .1) (I .element j) (c .element-lt j))),
+            (
+              each-map₃ {R = MeetsMembership G I} {S = HoldsMembership B (seat (table t n))} (λ q l u h.
+                  rw (getD-table t n (q .individual) 0 u, ← typeOf-has G (w .well-formed) I c (I .element (q .individual)) (c .element-lt (q .individual)) (q .term) l) h)
+                  (B .memberships) (w .terms-in) members-in (m .2 .memberships-met),
+              each-map₂ {Q = MeetsLink I} {R = HoldsLink B (seat (table t n))} (λ q u h.
+                  rw (getD-table t n (q .source) 0 (u .0), getD-table t n (q .target) 0 (u .1))
+                  (le-trans h (link-of-types G (B .rules) (w .well-formed) (w .rules-in) I (m .1) (q .role) (I .element (q .source)) (I .element (q .target)) (c .element-lt (q .source)) (c .element-lt (q .target)))))
+                  (B .links) links-in (m .2 .links-met),
+            ),
+          ),
+        )
+
+    -- and back: each individual at the element of its type
+    module _ (h : 0 < length (survivorsOf B)) (p : List ℕ) (v : Placed p) where
+      abbrev at : ℕ → ℕ
+      at j = index (survivorsOf B) (seat p j)
+
+      seated : (j : ℕ) → at j < length (survivorsOf B)
+      seated j = index-lt (survivorsOf B) (seat p j) h
+
+      -- individual j sits at its placed type
+      pub placed-seat : (j : ℕ) → j < individuals B → listed G (B .rules) (at j) ≡ seat p j
+      placed-seat j u = at-index (survivorsOf B) (seat p j) (each-mem (Survives G (B .rules)) p (v .0 .1) (seat p j) (mem-at p j 0 (omega (arith, v .0 .0))))
+
+      pub placed-claims : MeetsClaims B (placedTypes B p)
+      placed-claims = record {
+        memberships-met = each-map₃ {R = HoldsMembership B (seat p)} {S = MeetsMembership G (placedTypes B p)} (λ q t u g.
+            rw (listed-has G (B .rules) (w .well-formed) h at (at (q .individual)) (seated (q .individual)) (q .term) t, placed-seat (q .individual) u) g)
+            (B .memberships) (w .terms-in) members-in (v .1 .0);
+        links-met = each-map₂ {Q = HoldsLink B (seat p)} {R = MeetsLink (placedTypes B p)} (λ q u g.
+            rw (placed-seat (q .source) (u .0), placed-seat (q .target) (u .1)) g) (B .links) links-in (v .1 .1);
+      }
+
+      pub placed-rules : RuleModel G (B .rules) (placedTypes B p)
+      placed-rules = listed-meets G (B .rules) (w .well-formed) h at (w .rules-in) seated
+
+    -- outcome 1: the listed types, with the individuals as placed, meet everything
+    pub outcome-model : outcome B ≡ 1 → (p : List ℕ) × (placement B ≡ some p) × RuleModel G (B .rules) (placedTypes B p) × MeetsClaims B (placedTypes B p)
+        × ((j : ℕ) → j < individuals B → listed G (B .rules) (placedTypes B p .element j) ≡ seat p j)
+    outcome-model e =
+        let u = outcome-placed e in
+        let p = u .1 .0 in
+        let v = u .1 .2 in
+        (p, u .1 .1, placed-rules (u .0) p v, placed-claims (u .0) p v, placed-seat (u .0) p v)
+
+    -- THEOREM C: the outcome says which of three is the case
+    abbrev pub Verdict : ℕ → Type 0
+    Verdict n = ((n ≡ 1) × Satisfiable B) ⊎ (((n ≡ 2) × RulesSatisfiable B × ¬ Satisfiable B) ⊎ ((n ≡ 3) × ¬ RulesSatisfiable B))
+
+    pub verdict : Verdict (outcome B)
+    unfolding outcome
+    verdict = go (survivorsOf B) refl (placement B) placement-finds
+      where
+        go : (xs : List ℕ) → survivorsOf B ≡ xs → (o : Option (List ℕ)) → Finds (survivorsOf B) (individuals B) (HoldsAt B) o → Verdict (outcomeOf B xs o)
+        go [] e o f = inr (inr (refl, λ m. omega (arith, rules-satisfiable .0 m, ap length e)))
+        go (c ∷ cs) e none f = inr (inl (refl, rules-satisfiable .1 (omega (arith, ap length e)), λ m. let u = model-placed m in f (u .0) (u .1 .0) (u .1 .1)))
+        go (c ∷ cs) e (some p) f =
+            let h : 0 < length (survivorsOf B) = omega (arith, ap length e) in
+            let v : Placed p = (f .drawn, f .passes) in
+            inl (refl, (placedTypes B p, placed-rules h p v, placed-claims h p v))
+
+    pub outcome-1 : (outcome B ≡ 1) ↔ Satisfiable B
+    outcome-1 = go (outcome B) verdict
+      where
+        go : (n : ℕ) → Verdict n → (n ≡ 1) ↔ Satisfiable B
+        go n (inl u) = (λ _. u .1, λ _. u .0)
+        go n (inr (inl u)) = (λ e. absurd (omega (arith, u .0)), λ m. absurd (u .2 m))
+        go n (inr (inr u)) = (λ e. absurd (omega (arith, u .0)), λ m. absurd (u .1 (m .0, m .1)))
+
+    pub outcome-2 : (outcome B ≡ 2) ↔ (RulesSatisfiable B × ¬ Satisfiable B)
+    outcome-2 = go (outcome B) verdict
+      where
+        go : (n : ℕ) → Verdict n → (n ≡ 2) ↔ (RulesSatisfiable B × ¬ Satisfiable B)
+        go n (inl u) = (λ e. absurd (omega (arith, u .0)), λ m. absurd (m .1 (u .1)))
+        go n (inr (inl u)) = (λ _. (u .1, u .2), λ _. u .0)
+        go n (inr (inr u)) = (λ e. absurd (omega (arith, u .0)), λ m. absurd (u .1 (m .0)))
+
+    pub outcome-3 : (outcome B ≡ 3) ↔ (¬ RulesSatisfiable B)
+    outcome-3 = go (outcome B) verdict
+      where
+        go : (n : ℕ) → Verdict n → (n ≡ 3) ↔ (¬ RulesSatisfiable B)
+        go n (inl u) = (λ e. absurd (omega (arith, u .0)), λ m. absurd (m (u .1 .0, u .1 .1)))
+        go n (inr (inl u)) = (λ e. absurd (omega (arith, u .0)), λ m. absurd (m (u .1)))
+        go n (inr (inr u)) = (λ _. u .1, λ _. u .0)
+
+    pub unsatisfiable : ((outcome B ≡ 2) ⊎ (outcome B ≡ 3)) ↔ (¬ Satisfiable B)
+    unsatisfiable = go (outcome B) verdict
+      where
+        go : (n : ℕ) → Verdict n → ((n ≡ 2) ⊎ (n ≡ 3)) ↔ (¬ Satisfiable B)
+        go n (inl u) = (λ e. absurd (⊎-elim (λ f. omega (arith, u .0)) (λ f. omega (arith, u .0)) e), λ m. absurd (m (u .1)))
+        go n (inr (inl u)) = (λ _. u .2, λ _. inl (u .0))
+        go n (inr (inr u)) = (λ _ m. u .1 (m .0, m .1), λ _. inr (u .0))

@@ -1,0 +1,2 @@
+pub mod Dictionary
+pub mod Outcome

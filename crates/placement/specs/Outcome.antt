@@ -1,0 +1,64 @@
+-- The placement of the individuals and the outcome of a book. Document 01, "Types and links": "Outcomes: 1 holds together; 2 the rules have a
+-- model but none meets the claims; 3 the rules have none."
+-- Assumes nothing.
+use mathlib.Core.Option.{Option, none, some}
+use mathlib.Core.List.{List, [], _∷_}
+use Prim.Native.Nat.{ℕ, _≤_}
+use native.Mathlib.Decide.{decLe}
+use lib.ListN.{getD}
+use Rattle.chain.specs.Decisions.{dec-and}
+use Rattle.chain.specs.Lists.{Each, each?, index}
+use Rattle.semantics.specs.Interpretations.{Interpretation}
+use Rattle.semantics.specs.Books.{Book, MembershipClaim, LinkClaim, Claimed, claimed?, individuals}
+use Rattle.semantics.specs.Candidates.{gradeIn}
+use Rattle.semantics.specs.Links.{link}
+use Rattle.elimination.specs.Survivors.{survivors}
+use Rattle.elimination.specs.Listed.{listedTypes}
+use Rattle.placement.specs.Dictionary.{seek}
+
+-- the candidate at which a placement has individual j
+abbrev pub seat : List ℕ → ℕ → ℕ
+seat p j = getD p j 0
+
+module _ (B : Book) where
+  -- the candidates that survive the book's rules
+  abbrev pub survivorsOf : List ℕ
+  survivorsOf = survivors (B .grading) (B .rules)
+
+  -- with individual j at candidate s j, a claim is met
+  abbrev pub HoldsMembership : (ℕ → ℕ) → MembershipClaim → Type 0
+  HoldsMembership s q = Claimed (q .sense) (q .grade) (gradeIn (B .grading) (s (q .individual)) (q .term))
+
+  abbrev pub HoldsLink : (ℕ → ℕ) → LinkClaim → Type 0
+  HoldsLink s q = q .grade ≤ link (B .grading) (q .role) (s (q .source)) (s (q .target))
+
+  abbrev pub Holds : (ℕ → ℕ) → Type 0
+  Holds s = Each (HoldsMembership s) (B .memberships) × Each (HoldsLink s) (B .links)
+
+  -- a placement, a candidate for each individual, meets every claim
+  abbrev pub HoldsAt : List ℕ → Type 0
+  HoldsAt p = Holds (seat p)
+
+  unfoldable pub holds? : (s : ℕ → ℕ) → Dec (Holds s)
+  unfolding dec-and each? claimed? decLe
+  holds? s =
+      dec-and (each? (λ q. claimed? (q .sense) (q .grade) (gradeIn (B .grading) (s (q .individual)) (q .term))) (B .memberships))
+      (each? (λ q. decLe (q .grade) (link (B .grading) (q .role) (s (q .source)) (s (q .target)))) (B .links))
+
+  -- "the placement: .. the first in dictionary order, individual 0 leading: every other placement at survivors that meets the claims comes
+  -- later"; none where there is none
+  unfoldable pub placement : Option (List ℕ)
+  unfolding seek
+  placement = seek (λ p. holds? (seat p)) survivorsOf (individuals B)
+
+  abbrev pub outcomeOf : List ℕ → Option (List ℕ) → ℕ
+  outcomeOf [] p = 3
+  outcomeOf (c ∷ cs) none = 2
+  outcomeOf (c ∷ cs) (some p) = 1
+
+  unfoldable pub outcome : ℕ
+  outcome = outcomeOf survivorsOf placement
+
+  -- the interpretation of the listed types, with the individuals as placed
+  abbrev pub placedTypes : List ℕ → Interpretation
+  placedTypes p = listedTypes (B .grading) (B .rules) (λ j. index survivorsOf (seat p j))

@@ -1,0 +1,198 @@
+-- Laws of places, candidates and types: a candidate's grades, that no two candidates share a type, and that each element has just one.
+-- Assumes nothing.
+use mathlib.Core.Path.{_≡_, refl, sym, ap, subst, _∙_}
+use mathlib.Core.Logic.{inl, inr, ⊎-elim, _↔_}
+use mathlib.Core.List.{List}
+use Prim.Native.Nat.{ℕ, _^_, _≤_, _<_}
+use native.Mathlib.Omega.{arith}
+use lib.ListN.{length}
+use Rattle.chain.specs.Search.{First, rank}
+use Rattle.chain.specs.Digits.{digit}
+use Rattle.chain.proofs.Search.{strong, rank-lt, rank-onto, rank-same, select-rank, select-lt}
+use Rattle.chain.proofs.Digits.{digit-lt, encode-lt, digit-encode, digits-inj}
+use Rattle.semantics.specs.Terms.{Term, name, not, and, or, some, all, top, bottom, term, Children, local}
+use Rattle.semantics.specs.Interpretations.{Grading, WellFormed, Interpretation, OnChain, gradeAt}
+use Rattle.semantics.specs.Candidates.{Place, named, quantifying, place, named?, bearer, OpensAs, Opens, opens?, places, homeAs, home, slot, base, candidates, inCandidate, gradeIn, HasType, placeGrade, typeOf, NamesApart, IsPlace, isPlace?, placesBefore}
+use Rattle.semantics.proofs.Terms.{value-local, value-unique}
+use Rattle.semantics.proofs.Interpretations.{gradeAt-local, gradeAt-le}
+
+module _ (ts : List Term) where
+  -- a name has a home, which is a term with that name; a quantified term is its own
+  pub home-name : (i a : ℕ) → i < length ts → term ts i ≡ name a → (home ts i < length ts) × Opens ts (home ts i) × (term ts (home ts i) ≡ name a)
+  unfolding home homeAs
+  home-name i a l e =
+      subst (λ (p : Place). (homeAs ts i p < length ts) × Opens ts (homeAs ts i p) × (term ts (homeAs ts i p) ≡ name a)) (sym (ap place e)) (go (bearer ts a))
+    where
+      go : (w : First (named? ts a) (length ts)) → let h : ℕ = ⊎-elim (λ u. u .0) (λ _. i) w in (h < length ts) × Opens ts h × (term ts h ≡ name a)
+      go (inl w) = (w .1, subst (OpensAs ts (w .0)) (sym (ap place (w .2))) (w .3), w .2)
+      go (inr f) = absurd (f i l e)
+
+  pub home-quantifying : (i : ℕ) → place (term ts i) ≡ quantifying → (home ts i ≡ i) × Opens ts i
+  unfolding home homeAs
+  home-quantifying i e = subst (λ (p : Place). (homeAs ts i p ≡ i) × OpensAs ts i p) (sym e) (refl, tt)
+
+  -- a term that opens a place is its own home
+  pub home-opens : (i : ℕ) → i < length ts → Opens ts i → home ts i ≡ i
+  unfolding home homeAs
+  home-opens i l = go (term ts i) refl
+    where
+      at : (a : ℕ) → term ts i ≡ name a → OpensAs ts i (named a) → (w : First (named? ts a) (length ts)) → ⊎-elim (λ u. u .0) (λ _. i) w ≡ i
+      at a e o (inl w) =
+          let n : ¬ (w .0 < i) = λ h. o (w .0) h (w .2) in
+          let m : ¬ (i < w .0) = λ h. w .3 i h e in
+          omega arith
+      at a e o (inr f) = refl
+
+      go : (t : Term) → term ts i ≡ t → OpensAs ts i (place t) → homeAs ts i (place t) ≡ i
+      go (name a) e o = at a e o (bearer ts a)
+      go (not c) e o = absurd o
+      go (and c d) e o = absurd o
+      go (or c d) e o = absurd o
+      go (some r c) e o = refl
+      go (all r c) e o = refl
+      go top e o = absurd o
+      go bottom e o = absurd o
+
+  -- ---- where no name stands twice: a place is a term of kind 0, 4 or 5, and its number is how many stand before it
+
+  module _ (apart : NamesApart ts) where
+    pub opens-place : (i : ℕ) → i < length ts → Opens ts i ↔ IsPlace (place (term ts i))
+    opens-place i l = go (term ts i) refl
+      where
+        go : (t : Term) → term ts i ≡ t → OpensAs ts i (place t) ↔ IsPlace (place t)
+        go (name a) e = (λ _. tt, λ _ j h f. absurd (omega (arith, apart i j a l (omega arith) e f)))
+        go (not c) e = (λ z. z, λ z. z)
+        go (and c d) e = (λ z. z, λ z. z)
+        go (or c d) e = (λ z. z, λ z. z)
+        go (some r c) e = (λ z. z, λ z. z)
+        go (all r c) e = (λ z. z, λ z. z)
+        go top e = (λ z. z, λ z. z)
+        go bottom e = (λ z. z, λ z. z)
+
+    pub places-count : places ts ≡ placesBefore ts (length ts)
+    unfolding places placesBefore
+    places-count = rank-same (opens? ts) (λ j. isPlace? (place (term ts j))) (length ts) opens-place
+
+    pub rank-opens : (i : ℕ) → i < length ts → rank (opens? ts) i ≡ placesBefore ts i
+    unfolding placesBefore
+    rank-opens i l = rank-same (opens? ts) (λ j. isPlace? (place (term ts j))) i (λ j g. opens-place j (omega arith))
+
+-- ---- the grades in a candidate
+
+module _ (G : Grading) (w : WellFormed G) where
+  pub gradeIn-local : (c i : ℕ) → i < length (G .terms) → (t : Term) → term (G .terms) i ≡ t → gradeIn G c i ≡ local (inCandidate G c) i t (gradeIn G c)
+  unfolding gradeIn
+  gradeIn-local c i l t e =
+      value-local (inCandidate G c) (G .terms) (w .ordered) i l ∙ ap (λ (s : Term). local (inCandidate G c) i s (gradeIn G c)) e
+
+  pub gradeIn-le : (c i : ℕ) → i < length (G .terms) → gradeIn G c i ≤ G .steps
+  gradeIn-le c =
+      strong (λ i. i < length (G .terms) → gradeIn G c i ≤ G .steps) (λ i ih l.
+      rw (gradeIn-local c i l (term (G .terms) i) refl) (go i (term (G .terms) i) (w .ordered i l) (λ j g. ih j g (omega arith))))
+    where
+      digit-le : (s : ℕ) → digit (base G) s c ≤ G .steps
+      digit-le s = omega (arith, digit-lt (base G) (omega arith) s c)
+
+      go : (i : ℕ) (t : Term) → Children i t → ((j : ℕ) → j < i → gradeIn G c j ≤ G .steps) → local (inCandidate G c) i t (gradeIn G c) ≤ G .steps
+      go i (name a) h ih = digit-le (slot (G .terms) i)
+      go i (not x) h ih = w .lawful .negation-le _ (ih x h)
+      go i (and x y) h ih = w .lawful .conjunction-le _ _ (ih x (h .0)) (ih y (h .1))
+      go i (or x y) h ih = w .lawful .disjunction-le _ _ (ih x (h .0)) (ih y (h .1))
+      go i (some r x) h ih = digit-le (slot (G .terms) i)
+      go i (all r x) h ih = digit-le (slot (G .terms) i)
+      go i top h ih = omega arith
+      go i bottom h ih = omega arith
+
+  -- the grade of a term that opens a place is the place's digit
+  pub gradeIn-opens : (c i : ℕ) → i < length (G .terms) → Opens (G .terms) i → gradeIn G c i ≡ digit (base G) (rank (opens? (G .terms)) i) c
+  unfolding slot
+  gradeIn-opens c i l o =
+      go (term (G .terms) i) refl o ∙ ap (λ (h : ℕ). digit (base G) (rank (opens? (G .terms)) h) c) (home-opens (G .terms) i l o)
+    where
+      go : (t : Term) → term (G .terms) i ≡ t → OpensAs (G .terms) i (place t) → gradeIn G c i ≡ digit (base G) (slot (G .terms) i) c
+      go (name a) e o = gradeIn-local c i l (name a) e
+      go (not x) e o = absurd o
+      go (and x y) e o = absurd o
+      go (or x y) e o = absurd o
+      go (some r x) e o = gradeIn-local c i l (some r x) e
+      go (all r x) e o = gradeIn-local c i l (all r x) e
+      go top e o = absurd o
+      go bottom e o = absurd o
+
+  -- .. and where no name stands twice, of each term of kind 0, 4 or 5
+  pub gradeIn-place : NamesApart (G .terms) → (c i : ℕ) → i < length (G .terms) → IsPlace (place (term (G .terms) i))
+      → gradeIn G c i ≡ digit (base G) (placesBefore (G .terms) i) c
+  gradeIn-place apart c i l h =
+      gradeIn-opens c i l (opens-place (G .terms) apart i l .1 h) ∙ ap (λ (s : ℕ). digit (base G) s c) (rank-opens (G .terms) apart i l)
+
+  pub candidates-count : NamesApart (G .terms) → candidates G ≡ base G ^ placesBefore (G .terms) (length (G .terms))
+  unfolding candidates
+  candidates-count apart = ap (λ (k : ℕ). base G ^ k) (places-count (G .terms) apart)
+
+  -- the grade of a name is that of its first bearer
+  pub gradeIn-name : (c i a : ℕ) → i < length (G .terms) → term (G .terms) i ≡ name a
+      → gradeIn G c i ≡ ⊎-elim (λ u. gradeIn G c (u .0)) (λ _. 0) (bearer (G .terms) a)
+  unfolding slot home homeAs
+  gradeIn-name c i a l e = go (bearer (G .terms) a) (ap (λ (t : Term). homeAs (G .terms) i (place t)) e)
+    where
+      go : (v : First (named? (G .terms) a) (length (G .terms))) → home (G .terms) i ≡ ⊎-elim (λ u. u .0) (λ _. i) v
+          → gradeIn G c i ≡ ⊎-elim (λ u. gradeIn G c (u .0)) (λ _. 0) v
+      go (inl u) h =
+          let v = home-name (G .terms) i a l e in
+          gradeIn-local c i l (name a) e ∙ sym (gradeIn-opens c (home (G .terms) i) (v .0) (v .1)) ∙ ap (gradeIn G c) h
+      go (inr f) h = absurd (f i l e)
+
+  -- no two candidates share a type
+  pub gradeIn-inj : (c d : ℕ) → c < candidates G → d < candidates G → ((i : ℕ) → i < length (G .terms) → gradeIn G c i ≡ gradeIn G d i) → c ≡ d
+  unfolding candidates places
+  gradeIn-inj c d hc hd e =
+      digits-inj (base G) (omega arith) (places (G .terms)) c d hc hd (λ s h.
+      let u = rank-onto (opens? (G .terms)) (length (G .terms)) s h in
+      rw (← u .3) (sym (gradeIn-opens c (u .0) (u .1) (u .2)) ∙ e (u .0) (u .1) ∙ gradeIn-opens d (u .0) (u .1) (u .2)))
+
+-- ---- the type of an element
+
+module _ (G : Grading) (w : WellFormed G) (I : Interpretation) (p : OnChain (G .steps) I) (e : ℕ) (h : e < I .size) where
+  placeGrade-lt : (s : ℕ) → s < places (G .terms) → placeGrade G I e s < base G
+  unfolding places
+  placeGrade-lt s g = omega (arith, gradeAt-le G I w p _ (select-lt (opens? (G .terms)) (length (G .terms)) s g) e h)
+
+  pub typeOf-lt : typeOf G I e < candidates G
+  unfolding typeOf candidates
+  typeOf-lt = encode-lt (base G) (omega arith) (places (G .terms)) (placeGrade G I e) placeGrade-lt
+
+  typeOf-digit : (i : ℕ) → i < length (G .terms) → Opens (G .terms) i → digit (base G) (rank (opens? (G .terms)) i) (typeOf G I e) ≡ gradeAt G I i e
+  unfolding typeOf places
+  typeOf-digit i l o =
+      digit-encode (base G) (omega arith) (places (G .terms)) (placeGrade G I e) placeGrade-lt (rank (opens? (G .terms)) i)
+      (rank-lt (opens? (G .terms)) i (length (G .terms)) l o)
+      ∙ ap (λ (j : ℕ). gradeAt G I j e) (select-rank (opens? (G .terms)) (length (G .terms)) i l o)
+
+  pub typeOf-has : HasType G I e (typeOf G I e)
+  unfolding gradeIn slot
+  typeOf-has =
+      value-unique (inCandidate G (typeOf G I e)) (G .terms) (w .ordered) (λ i. gradeAt G I i e) (λ i l. go i l (term (G .terms) i) refl)
+    where
+      quantifier : (i : ℕ) → i < length (G .terms) → place (term (G .terms) i) ≡ quantifying
+          → gradeAt G I i e ≡ digit (base G) (rank (opens? (G .terms)) (home (G .terms) i)) (typeOf G I e)
+      quantifier i l q =
+          let u = home-quantifying (G .terms) i q in
+          sym (typeOf-digit i l (u .1)) ∙ ap (λ (j : ℕ). digit (base G) (rank (opens? (G .terms)) j) (typeOf G I e)) (sym (u .0))
+
+      go : (i : ℕ) → i < length (G .terms) → (t : Term) → term (G .terms) i ≡ t
+          → gradeAt G I i e ≡ local (inCandidate G (typeOf G I e)) i t (λ j. gradeAt G I j e)
+      go i l (name a) q =
+          let u = home-name (G .terms) i a l q in
+          gradeAt-local G I w i l (name a) q e ∙ sym (gradeAt-local G I w (home (G .terms) i) (u .0) (name a) (u .2) e)
+          ∙ sym (typeOf-digit (home (G .terms) i) (u .0) (u .1))
+      go i l (not x) q = gradeAt-local G I w i l (not x) q e
+      go i l (and x y) q = gradeAt-local G I w i l (and x y) q e
+      go i l (or x y) q = gradeAt-local G I w i l (or x y) q e
+      go i l (some r x) q = quantifier i l (ap place q)
+      go i l (all r x) q = quantifier i l (ap place q)
+      go i l top q = gradeAt-local G I w i l top q e
+      go i l bottom q = gradeAt-local G I w i l bottom q e
+
+  -- and it is the only one
+  pub typeOf-only : (c : ℕ) → c < candidates G → HasType G I e c → c ≡ typeOf G I e
+  typeOf-only c l t = gradeIn-inj G w c (typeOf G I e) l typeOf-lt (λ i g. sym (t i g) ∙ typeOf-has i g)

@@ -1,0 +1,70 @@
+-- Laws of the grade at an element: the table of document 01 kind by kind, that grades are on the chain, and that only they obey the table.
+-- Assumes nothing.
+use mathlib.Core.Path.{_≡_, refl, sym, ap, ap₂, _∙_}
+use Prim.Native.Nat.{ℕ, _≤_, _<_}
+use native.Mathlib.Omega.{arith}
+use lib.ListN.{length}
+use Rattle.chain.specs.Connectives.{Quantifier, existential, universal, through, over}
+use Rattle.chain.proofs.Connectives.{over-le, over-same}
+use Rattle.chain.proofs.Search.{strong}
+use Rattle.semantics.specs.Terms.{Term, name, not, and, or, some, all, top, bottom, term, Children, local}
+use Rattle.semantics.specs.Quantified.{quantified}
+use Rattle.semantics.specs.Interpretations.{Grading, WellFormed, Interpretation, OnChain, atElements, gradeAt}
+use Rattle.semantics.proofs.Terms.{value-local}
+
+-- what a quantified term with role r and child x takes at e from element f
+abbrev pub taken : Grading → Interpretation → Quantifier → (r x e f : ℕ) → ℕ
+taken G I q r x e f = through (G .connectives) q (I .links r e f) (gradeAt G I x f)
+
+module _ (G : Grading) (I : Interpretation) (w : WellFormed G) where
+  -- the table's row for the kind of term i
+  pub gradeAt-local : (i : ℕ) → i < length (G .terms) → (t : Term) → term (G .terms) i ≡ t → (e : ℕ) → gradeAt G I i e ≡ local (atElements G I) i t (gradeAt G I) e
+  unfolding gradeAt
+  gradeAt-local i l t h e =
+      ap (λ (v : ℕ → ℕ). v e) (value-local (atElements G I) (G .terms) (w .ordered) i l ∙ ap (λ (s : Term). local (atElements G I) i s (gradeAt G I)) h)
+
+  pub gradeAt-quantified : (i : ℕ) → i < length (G .terms) → (q : Quantifier) (r x : ℕ) → term (G .terms) i ≡ quantified q r x → (e : ℕ)
+      → gradeAt G I i e ≡ over q (G .steps) (taken G I q r x e) (I .size)
+  gradeAt-quantified i l existential r x h e = gradeAt-local i l (some r x) h e
+  gradeAt-quantified i l universal r x h e = gradeAt-local i l (all r x) h e
+
+  pub gradeAt-le : OnChain (G .steps) I → (i : ℕ) → i < length (G .terms) → (e : ℕ) → e < I .size → gradeAt G I i e ≤ G .steps
+  gradeAt-le p =
+      strong (λ i. i < length (G .terms) → (e : ℕ) → e < I .size → gradeAt G I i e ≤ G .steps) (λ i ih l e h.
+      rw (gradeAt-local i l (term (G .terms) i) refl e) (go i (term (G .terms) i) (w .ordered i l) (λ j g. ih j g (omega arith)) e h))
+    where
+      go : (i : ℕ) (t : Term) → Children i t → ((j : ℕ) → j < i → (e : ℕ) → e < I .size → gradeAt G I j e ≤ G .steps) → (e : ℕ) → e < I .size
+          → local (atElements G I) i t (gradeAt G I) e ≤ G .steps
+      go i (name a) c ih e h = p .names-le a e h
+      go i (not x) c ih e h = w .lawful .negation-le _ (ih x c e h)
+      go i (and x y) c ih e h = w .lawful .conjunction-le _ _ (ih x (c .0) e h) (ih y (c .1) e h)
+      go i (or x y) c ih e h = w .lawful .disjunction-le _ _ (ih x (c .0) e h) (ih y (c .1) e h)
+      go i (some r x) c ih e h =
+          over-le existential (G .steps) (taken G I existential r x e) (I .size) (λ f g. w .lawful .conjunction-le _ _ (p .links-le r e f h g) (ih x c f g))
+      go i (all r x) c ih e h =
+          over-le universal (G .steps) (taken G I universal r x e) (I .size) (λ f g. w .lawful .implication-le _ _ (p .links-le r e f h g) (ih x c f g))
+      go i top c ih e h = omega arith
+      go i bottom c ih e h = omega arith
+
+  -- whoever obeys the table at every element is the grade
+  pub gradeAt-unique : (v : ℕ → ℕ → ℕ)
+      → ((i : ℕ) → i < length (G .terms) → (e : ℕ) → e < I .size → v i e ≡ local (atElements G I) i (term (G .terms) i) v e)
+      → (i : ℕ) → i < length (G .terms) → (e : ℕ) → e < I .size → v i e ≡ gradeAt G I i e
+  gradeAt-unique v obeys =
+      strong (λ i. i < length (G .terms) → (e : ℕ) → e < I .size → v i e ≡ gradeAt G I i e) (λ i ih l e h.
+      obeys i l e h ∙ go i (term (G .terms) i) (w .ordered i l) (λ j g. ih j g (omega arith)) e h ∙ sym (gradeAt-local i l (term (G .terms) i) refl e))
+    where
+      go : (i : ℕ) (t : Term) → Children i t → ((j : ℕ) → j < i → (e : ℕ) → e < I .size → v j e ≡ gradeAt G I j e) → (e : ℕ) → e < I .size
+          → local (atElements G I) i t v e ≡ local (atElements G I) i t (gradeAt G I) e
+      go i (name a) c ih e h = refl
+      go i (not x) c ih e h = ap (G .connectives .negation) (ih x c e h)
+      go i (and x y) c ih e h = ap₂ (G .connectives .conjunction) (ih x (c .0) e h) (ih y (c .1) e h)
+      go i (or x y) c ih e h = ap₂ (G .connectives .disjunction) (ih x (c .0) e h) (ih y (c .1) e h)
+      go i (some r x) c ih e h =
+          over-same existential (G .steps) (λ f. G .connectives .conjunction (I .links r e f) (v x f)) (taken G I existential r x e) (I .size)
+          (λ f g. ap (G .connectives .conjunction (I .links r e f)) (ih x c f g))
+      go i (all r x) c ih e h =
+          over-same universal (G .steps) (λ f. G .connectives .implication (I .links r e f) (v x f)) (taken G I universal r x e) (I .size)
+          (λ f g. ap (G .connectives .implication (I .links r e f)) (ih x c f g))
+      go i top c ih e h = refl
+      go i bottom c ih e h = refl

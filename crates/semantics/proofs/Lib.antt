@@ -1,0 +1,4 @@
+pub mod Terms
+pub mod Interpretations
+pub mod Candidates
+pub mod Links

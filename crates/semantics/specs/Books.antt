@@ -1,0 +1,105 @@
+-- Books (knowledge bases): rules (concept inclusions), membership claims (concept assertions), link claims (role assertions), and when an
+-- interpretation meets them. Document 01, "The book".
+-- Assumes nothing.
+use mathlib.Core.List.{List, [], _∷_}
+use Prim.Native.Nat.{ℕ, suc, _≤_, _<_, max}
+use native.Mathlib.Decide.{decLe}
+use lib.ListN.{length}
+use Rattle.chain.specs.Lists.{Each}
+use Rattle.semantics.specs.Interpretations.{Grading, WellFormed, Interpretation, OnChain, gradeAt}
+
+-- two terms
+pub record Rule : Type 0 where
+  pub left : ℕ
+  pub right : ℕ
+
+-- a claim's sense: the grade is at least, or at most, the grade claimed
+pub data Sense : Type 0 where
+  at-least at-most : Sense
+
+abbrev pub Claimed : Sense → (claimed actual : ℕ) → Type 0
+Claimed at-least g x = g ≤ x
+Claimed at-most g x = x ≤ g
+
+unfoldable pub claimed? : (s : Sense) (g x : ℕ) → Dec (Claimed s g x)
+unfolding decLe
+claimed? at-least g x = decLe g x
+claimed? at-most g x = decLe x g
+
+pub record MembershipClaim : Type 0 where
+  pub individual : ℕ
+  pub term : ℕ
+  pub sense : Sense
+  pub grade : ℕ
+
+-- of the sense "at least"
+pub record LinkClaim : Type 0 where
+  pub role : ℕ
+  pub source : ℕ
+  pub target : ℕ
+  pub grade : ℕ
+
+pub record Book : Type 0 where
+  pub grading : Grading
+  pub rules : List Rule
+  pub memberships : List MembershipClaim
+  pub links : List LinkClaim
+
+-- ---- the individuals: "0 up to the highest one claimed; without claims there are none"
+
+abbrev pub aboveMemberships : List MembershipClaim → ℕ
+aboveMemberships [] = 0
+aboveMemberships (q ∷ qs) = max (suc (q .individual)) (aboveMemberships qs)
+
+abbrev pub aboveLinks : List LinkClaim → ℕ
+aboveLinks [] = 0
+aboveLinks (q ∷ qs) = max (max (suc (q .source)) (suc (q .target))) (aboveLinks qs)
+
+-- their number: one more than the highest
+abbrev pub individuals : Book → ℕ
+individuals B = max (aboveMemberships (B .memberships)) (aboveLinks (B .links))
+
+-- ---- what the checks 6 to 9 establish, as far as the theory asks it
+
+abbrev pub RuleInRange : Grading → Rule → Type 0
+RuleInRange G q = (q .left < length (G .terms)) × (q .right < length (G .terms))
+
+abbrev pub TermInRange : Grading → MembershipClaim → Type 0
+TermInRange G q = q .term < length (G .terms)
+
+pub record Valid (B : Book) : Type 0 where
+  pub well-formed : WellFormed (B .grading)
+  pub rules-in : Each (RuleInRange (B .grading)) (B .rules)
+  pub terms-in : Each (TermInRange (B .grading)) (B .memberships)
+
+-- ---- met
+
+module _ (G : Grading) (I : Interpretation) where
+  -- "A rule is met when left is not greater than right at every element."
+  abbrev pub MeetsRule : Rule → Type 0
+  MeetsRule q = (e : ℕ) → e < I .size → gradeAt G I (q .left) e ≤ gradeAt G I (q .right) e
+
+  -- "A membership claim is met when its term's grade at its individual's element is at least, or at most, the grade claimed"
+  abbrev pub MeetsMembership : MembershipClaim → Type 0
+  MeetsMembership q = Claimed (q .sense) (q .grade) (gradeAt G I (q .term) (I .element (q .individual)))
+
+-- "a link claim when the role's link from the one's element to the other's is at least the grade claimed"
+abbrev pub MeetsLink : Interpretation → LinkClaim → Type 0
+MeetsLink I q = q .grade ≤ I .links (q .role) (I .element (q .source)) (I .element (q .target))
+
+-- "A model of the rules is a finite interpretation on the book's chain that meets every rule."
+pub record RuleModel (G : Grading) (rs : List Rule) (I : Interpretation) : Type 0 where
+  pub on-chain : OnChain (G .steps) I
+  pub rules-met : Each (MeetsRule G I) rs
+
+pub record MeetsClaims (B : Book) (I : Interpretation) : Type 0 where
+  pub memberships-met : Each (MeetsMembership (B .grading) I) (B .memberships)
+  pub links-met : Each (MeetsLink I) (B .links)
+
+-- the rules have a model
+abbrev pub RulesSatisfiable : Book → Type 0
+RulesSatisfiable B = (I : Interpretation) × RuleModel (B .grading) (B .rules) I
+
+-- some finite non-empty interpretation on the chain meets every rule and every claim
+abbrev pub Satisfiable : Book → Type 0
+Satisfiable B = (I : Interpretation) × RuleModel (B .grading) (B .rules) I × MeetsClaims B I

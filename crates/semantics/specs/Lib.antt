@@ -1,0 +1,6 @@
+pub mod Terms
+pub mod Quantified
+pub mod Interpretations
+pub mod Books
+pub mod Candidates
+pub mod Links
