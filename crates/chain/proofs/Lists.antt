@@ -9,7 +9,7 @@ use native.Mathlib.Decide.{ℕ-discrete}
 use native.Mathlib.Omega.{arith}
 use lib.ListN.{length, getD}
 use Rattle.chain.specs.Search.{First, first}
-use Rattle.chain.specs.Lists.{Mem, Each, table, keep, from, Ascending, index}
+use Rattle.chain.specs.Lists.{Mem, Each, highest, table, keep, from, Ascending, index}
 use Rattle.chain.proofs.Search.{below-cases}
 
 -- ---- members
@@ -41,6 +41,13 @@ module _ {A : Type 0} where
   at-mem [] d x m = absurd m
   at-mem (y ∷ ys) d x (inl e) = (0, omega arith, sym e)
   at-mem (y ∷ ys) d x (inr m) = let w = at-mem ys d x m in (suc (w .0), omega arith, w .2)
+
+  -- ---- the highest
+
+  pub each-highest : (f : A → ℕ) (xs : List A) (n : ℕ) → highest f xs ≤ n → Each (λ x. f x ≤ n) xs
+  unfolding highest
+  each-highest f [] n h = tt
+  each-highest f (x ∷ xs) n h = (omega arith, each-highest f xs n (omega arith))
 
   -- ---- tables
 

@@ -3,7 +3,7 @@
 use mathlib.Core.Path.{_≡_, refl, subst}
 use mathlib.Core.Logic.{_⊎_, inl, inr, ⊎-elim, ite}
 use mathlib.Core.List.{List, [], _∷_}
-use Prim.Native.Nat.{ℕ, zero, suc, _≤_}
+use Prim.Native.Nat.{ℕ, zero, suc, _≤_, max}
 use native.Mathlib.Decide.{ℕ-discrete}
 use lib.ListN.{length, getD}
 use Rattle.chain.specs.Decisions.{dec-and}
@@ -17,6 +17,11 @@ module _ {A : Type 0} where
   abbrev pub Each : (A → Type 0) → List A → Type 0
   Each P [] = Unit {0}
   Each P (x ∷ xs) = P x × Each P xs
+
+  -- the greatest of f over the members; 0 for none
+  unfoldable pub highest : (A → ℕ) → List A → ℕ
+  highest f [] = 0
+  highest f (x ∷ xs) = max (f x) (highest f xs)
 
   -- f 0, f 1, .., n of them
   unfoldable pub table : (ℕ → A) → ℕ → List A

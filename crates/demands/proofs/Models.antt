@@ -5,11 +5,11 @@ use native.Mathlib.Decide.{decLt}
 use lib.Dec.{lit<}
 use Rattle.chain.specs.Decisions.{passed}
 use Rattle.chain.specs.Search.{first, rank}
-use Rattle.chain.specs.Lists.{from, keep, each?}
+use Rattle.chain.specs.Lists.{highest, from, keep, each?}
 use Rattle.chain.specs.Digits.{digit}
 use Rattle.chain.proofs.Connectives.{zadeh-lawful}
 use Rattle.semantics.specs.Terms.{ordered?, value, deep}
-use Rattle.semantics.specs.Books.{Valid, Satisfiable, RulesSatisfiable}
+use Rattle.semantics.specs.Books.{individuals, Valid, Satisfiable, RulesSatisfiable}
 use Rattle.semantics.specs.Candidates.{bearer, opens?, places, homeAs, home, slot, candidates, gradeIn}
 use Rattle.semantics.specs.Links.{link}
 use Rattle.elimination.specs.Survivors.{fits?, settle, survivors}
@@ -27,7 +27,7 @@ printed-valid = record {
 }
 
 pub printed-model : Satisfiable (printed 2)
-unfolding outcome placement tryEach holds? survivors settle fits? from keep each? candidates places link gradeIn value deep slot home homeAs bearer first opens? rank digit
+unfolding outcome placement individuals highest tryEach holds? survivors settle fits? from keep each? candidates places link gradeIn value deep slot home homeAs bearer first opens? rank digit
 printed-model = outcome-1-holds-together (printed 2) printed-valid .0 refl
 
 underSome-valid : Valid underSome
@@ -39,7 +39,7 @@ underSome-valid = record {
 }
 
 pub underSome-model : Satisfiable underSome
-unfolding outcome placement tryEach holds? survivors settle fits? from keep each? candidates places link gradeIn value deep slot home homeAs bearer first opens? rank digit
+unfolding outcome placement individuals highest tryEach holds? survivors settle fits? from keep each? candidates places link gradeIn value deep slot home homeAs bearer first opens? rank digit
 underSome-model = outcome-1-holds-together underSome underSome-valid .0 refl
 
 -- the same terms as the printed book, N 1: no interpretation of any size meets its rules
@@ -52,7 +52,7 @@ printed-1-valid = record {
 }
 
 pub printed-1-none : ¬ RulesSatisfiable (printed 1)
-unfolding outcome placement tryEach holds? survivors settle fits? from keep each? candidates places link gradeIn value deep slot home homeAs bearer first opens? rank digit
+unfolding outcome placement individuals highest tryEach holds? survivors settle fits? from keep each? candidates places link gradeIn value deep slot home homeAs bearer first opens? rank digit
 printed-1-none = outcome-3-no-model (printed 1) printed-1-valid .0 refl
 
 someBottom-valid : Valid someBottom
@@ -65,5 +65,5 @@ someBottom-valid = record {
 
 -- "some r0 bottom" at least 1: the rules have a model, and none meets the claim
 pub someBottom-fails : RulesSatisfiable someBottom × ¬ Satisfiable someBottom
-unfolding outcome placement tryEach holds? survivors settle fits? from keep each? candidates places link gradeIn value deep slot home homeAs bearer first opens? rank digit
+unfolding outcome placement individuals highest tryEach holds? survivors settle fits? from keep each? candidates places link gradeIn value deep slot home homeAs bearer first opens? rank digit
 someBottom-fails = outcome-2-claims-fail someBottom someBottom-valid .0 refl

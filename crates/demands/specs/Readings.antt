@@ -5,11 +5,11 @@ use mathlib.Core.Option.{Option, none, some}
 use mathlib.Core.List.{List, [], _∷_, map}
 use Prim.Native.Nat.{ℕ, _+_, _*_}
 use Rattle.chain.specs.Search.{first, rank}
-use Rattle.chain.specs.Lists.{from, keep, each?}
+use Rattle.chain.specs.Lists.{highest, from, keep, each?}
 use Rattle.chain.specs.Digits.{digit}
 use Rattle.semantics.specs.Terms.{Term, name, not, all, bottom, value, deep}
 use Rattle.semantics.specs.Interpretations.{graded}
-use Rattle.semantics.specs.Books.{Rule, MembershipClaim, LinkClaim, Book, at-least, at-most}
+use Rattle.semantics.specs.Books.{Rule, MembershipClaim, LinkClaim, Book, individuals, at-least, at-most}
 use Rattle.semantics.specs.Candidates.{bearer, opens?, places, homeAs, home, slot, candidates, gradeIn}
 use Rattle.semantics.specs.Links.{link}
 use Rattle.elimination.specs.Survivors.{fits?, settle, survivors}
@@ -110,5 +110,5 @@ bookReadings =
     ∷ reading (loop 1) 2 (from 0 9) none ∷ reading (loop 2) 1 (from 0 9) (some (8 ∷ [])) ∷ []
 
 pub books-read : map (λ q. answer (q .book)) bookReadings ≡ map (λ q. q .says) bookReadings
-unfolding outcome placement tryEach holds? survivors settle fits? from keep each? candidates places link gradeIn value deep slot home homeAs bearer first opens? rank digit
+unfolding outcome placement individuals highest tryEach holds? survivors settle fits? from keep each? candidates places link gradeIn value deep slot home homeAs bearer first opens? rank digit
 books-read = refl

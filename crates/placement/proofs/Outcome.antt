@@ -5,14 +5,14 @@ use mathlib.Core.Path.{_≡_, refl, ap, subst}
 use mathlib.Core.Logic.{_⊎_, inl, inr, ⊎-elim, _↔_}
 use mathlib.Core.Option.{Option, none, some}
 use mathlib.Core.List.{List, [], _∷_}
-use Prim.Native.Nat.{ℕ, _≤_, _<_}
+use Prim.Native.Nat.{ℕ, suc, _≤_, _<_}
 use native.Mathlib.Nat.{le-trans}
 use native.Mathlib.Omega.{arith}
 use lib.ListN.{length}
 use Rattle.chain.specs.Lists.{Each, table, index}
-use Rattle.chain.proofs.Lists.{mem-at, at-mem, each-mem, each-map₂, each-map₃, length-table, getD-table, each-table, index-lt, at-index}
+use Rattle.chain.proofs.Lists.{mem-at, at-mem, each-mem, each-map₂, each-map₃, length-table, getD-table, each-table, each-highest, index-lt, at-index}
 use Rattle.semantics.specs.Interpretations.{Grading}
-use Rattle.semantics.specs.Books.{Book, MembershipClaim, LinkClaim, aboveMemberships, aboveLinks, individuals, Valid, MeetsMembership, MeetsLink, RuleModel, MeetsClaims, RulesSatisfiable, Satisfiable}
+use Rattle.semantics.specs.Books.{Book, linkIndividuals, individuals, Valid, MeetsMembership, MeetsLink, RuleModel, MeetsClaims, RulesSatisfiable, Satisfiable}
 use Rattle.semantics.specs.Candidates.{typeOf}
 use Rattle.semantics.proofs.Candidates.{typeOf-has}
 use Rattle.elimination.specs.Survivors.{Survives}
@@ -23,15 +23,6 @@ use Rattle.elimination.proofs.Listed.{listed-has, listed-meets}
 use Rattle.placement.specs.Dictionary.{Drawn, Foremost, Nowhere, Finds}
 use Rattle.placement.specs.Outcome.{seat, survivorsOf, HoldsMembership, HoldsLink, HoldsAt, holds?, placement, outcomeOf, outcome, placedTypes}
 use Rattle.placement.proofs.Dictionary.{seek-finds}
-
--- every claim is about an individual of the book
-memberships-below : (qs : List MembershipClaim) (n : ℕ) → aboveMemberships qs ≤ n → Each (λ q. q .individual < n) qs
-memberships-below [] n h = tt
-memberships-below (q ∷ qs) n h = (omega arith, memberships-below qs n (omega arith))
-
-links-below : (qs : List LinkClaim) (n : ℕ) → aboveLinks qs ≤ n → Each (λ q. (q .source < n) × (q .target < n)) qs
-links-below [] n h = tt
-links-below (q ∷ qs) n h = ((omega arith, omega arith), links-below qs n (omega arith))
 
 module _ (B : Book) where
   abbrev G : Grading
@@ -64,11 +55,14 @@ module _ (B : Book) where
       go (c ∷ cs) e (some p) d f h = (omega (arith, ap length e), (p, d, (f .drawn, f .passes)))
 
   module _ (w : Valid B) where
-    members-in : Each (λ q. q .individual < individuals B) (B .memberships)
-    members-in = memberships-below (B .memberships) (individuals B) (omega arith)
+    -- every claim is about individuals of the book
+    members-in : Each (λ q. suc (q .individual) ≤ individuals B) (B .memberships)
+    unfolding individuals
+    members-in = each-highest (λ q. suc (q .individual)) (B .memberships) (individuals B) (omega arith)
 
-    links-in : Each (λ q. (q .source < individuals B) × (q .target < individuals B)) (B .links)
-    links-in = links-below (B .links) (individuals B) (omega arith)
+    links-in : Each (λ q. linkIndividuals q ≤ individuals B) (B .links)
+    unfolding individuals
+    links-in = each-highest linkIndividuals (B .links) (individuals B) (omega arith)
 
     -- the rules have a model if and only if a candidate survives
     pub rules-satisfiable : RulesSatisfiable B ↔ (0 < length (survivorsOf B))
@@ -92,7 +86,7 @@ module _ (B : Book) where
                   rw (getD-table t n (q .individual) 0 u, ← typeOf-has G (w .well-formed) I c (I .element (q .individual)) (c .element-lt (q .individual)) (q .term) l) h)
                   (B .memberships) (w .terms-in) members-in (m .2 .memberships-met),
               each-map₂ {Q = MeetsLink I} {R = HoldsLink B (seat (table t n))} (λ q u h.
-                  rw (getD-table t n (q .source) 0 (u .0), getD-table t n (q .target) 0 (u .1))
+                  rw (getD-table t n (q .source) 0 (omega arith), getD-table t n (q .target) 0 (omega arith))
                   (le-trans h (link-of-types G (B .rules) (w .well-formed) (w .rules-in) I (m .1) (q .role) (I .element (q .source)) (I .element (q .target)) (c .element-lt (q .source)) (c .element-lt (q .target)))))
                   (B .links) links-in (m .2 .links-met),
             ),
@@ -117,7 +111,7 @@ module _ (B : Book) where
             rw (listed-has G (B .rules) (w .well-formed) h at (at (q .individual)) (seated (q .individual)) (q .term) t, placed-seat (q .individual) u) g)
             (B .memberships) (w .terms-in) members-in (v .1 .0);
         links-met = each-map₂ {Q = HoldsLink B (seat p)} {R = MeetsLink (placedTypes B p)} (λ q u g.
-            rw (placed-seat (q .source) (u .0), placed-seat (q .target) (u .1)) g) (B .links) links-in (v .1 .1);
+            rw (placed-seat (q .source) (omega arith), placed-seat (q .target) (omega arith)) g) (B .links) links-in (v .1 .1);
       }
 
       pub placed-rules : RuleModel G (B .rules) (placedTypes B p)

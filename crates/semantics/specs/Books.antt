@@ -1,11 +1,11 @@
 -- Books (knowledge bases): rules (concept inclusions), membership claims (concept assertions), link claims (role assertions), and when an
 -- interpretation meets them. Document 01, "The book".
 -- Assumes nothing.
-use mathlib.Core.List.{List, [], _∷_}
+use mathlib.Core.List.{List}
 use Prim.Native.Nat.{ℕ, suc, _≤_, _<_, max}
 use native.Mathlib.Decide.{decLe}
 use lib.ListN.{length}
-use Rattle.chain.specs.Lists.{Each}
+use Rattle.chain.specs.Lists.{Each, highest}
 use Rattle.semantics.specs.Interpretations.{Grading, WellFormed, Interpretation, OnChain, gradeAt}
 
 -- two terms
@@ -47,17 +47,13 @@ pub record Book : Type 0 where
 
 -- ---- the individuals: "0 up to the highest one claimed; without claims there are none"
 
-abbrev pub aboveMemberships : List MembershipClaim → ℕ
-aboveMemberships [] = 0
-aboveMemberships (q ∷ qs) = max (suc (q .individual)) (aboveMemberships qs)
+-- one more than the highest individual of a claim
+abbrev pub linkIndividuals : LinkClaim → ℕ
+linkIndividuals q = max (suc (q .source)) (suc (q .target))
 
-abbrev pub aboveLinks : List LinkClaim → ℕ
-aboveLinks [] = 0
-aboveLinks (q ∷ qs) = max (max (suc (q .source)) (suc (q .target))) (aboveLinks qs)
-
--- their number: one more than the highest
-abbrev pub individuals : Book → ℕ
-individuals B = max (aboveMemberships (B .memberships)) (aboveLinks (B .links))
+-- their number: one more than the highest of all claims
+unfoldable pub individuals : Book → ℕ
+individuals B = max (highest (λ q. suc (q .individual)) (B .memberships)) (highest linkIndividuals (B .links))
 
 -- ---- what the checks 6 to 9 establish, as far as the theory asks it
 
