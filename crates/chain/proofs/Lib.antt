@@ -1,3 +1,4 @@
+pub mod Decisions
 pub mod Search
 pub mod Lists
 pub mod Digits

@@ -3,9 +3,10 @@
 use mathlib.Core.Path.{_≡_, refl, sym, ap, ap₂, subst}
 use mathlib.Core.Logic.{_⊎_, inl, inr, ⊎-elim, ite, _↔_}
 use mathlib.Core.List.{List, [], _∷_}
-use Prim.Native.Nat.{ℕ, zero, suc, _+_, _≤_, _<_}
+use Prim.Native.Nat.{ℕ, zero, suc, _+_, _≤_, _<_, max}
 use native.Mathlib.Nat.{not-suc-le-zero}
 use native.Mathlib.Decide.{ℕ-discrete}
+use native.Mathlib.Numerals.{add-one}
 use native.Mathlib.Omega.{arith}
 use lib.ListN.{length, getD}
 use Rattle.chain.specs.Search.{First, first}
@@ -62,10 +63,19 @@ module _ {A : Type 0} where
   getD-table f (suc n) zero d h = refl
   getD-table f (suc n) (suc i) d h = getD-table (λ j. f (suc j)) n i d (omega arith)
 
-  pub each-table : (P : A → Type 0) (f : ℕ → A) (n : ℕ) → ((i : ℕ) → P (f i)) → Each P (table f n)
+  pub each-table : (P : A → Type 0) (f : ℕ → A) (n : ℕ) → ((i : ℕ) → i < n → P (f i)) → Each P (table f n)
   unfolding table
   each-table P f zero h = tt
-  each-table P f (suc n) h = (h zero, each-table P (λ i. f (suc i)) n (λ i. h (suc i)))
+  each-table P f (suc n) h = (h zero (omega arith), each-table P (λ i. f (suc i)) n (λ i l. h (suc i) (omega arith)))
+
+  -- one entry more, at the end, as a loop meets it
+  pub highest-table : (f : A → ℕ) (g : ℕ → A) (n : ℕ) → highest f (table g (n + 1)) ≡ max (highest f (table g n)) (f (g n))
+  unfolding highest table
+  highest-table f g n = rw (add-one n) (go g n)
+    where
+      go : (g : ℕ → A) (n : ℕ) → highest f (table g (suc n)) ≡ max (highest f (table g n)) (f (g n))
+      go g zero = omega arith
+      go g (suc n) = let ih = go (λ i. g (suc i)) n in omega arith
 
   -- ---- the members that pass
 

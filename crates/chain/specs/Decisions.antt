@@ -1,6 +1,8 @@
 -- Decisions of compound facts. A notion is a type, and its test is a `Dec` of that type: so each notion is written once, and no lemma has to
 -- tie a test to its meaning.
 -- Assumes nothing.
+use mathlib.Core.Path.{_≡_}
+use mathlib.Core.Bool.{Bool, true, false}
 
 unfoldable pub dec-and : {A B : Type 0} → Dec A → Dec B → Dec (A × B)
 dec-and (yes a) (yes b) = yes (a, b)
@@ -29,3 +31,13 @@ Passed (no n) = ⊥
 pub passed : {A : Type 0} (d : Dec A) → Passed d → A
 passed (yes a) t = a
 passed (no n) t = absurd t
+
+-- ---- a decision as a Bool
+
+unfoldable pub says : {A : Type 0} → Dec A → Bool
+says (yes a) = true
+says (no n) = false
+
+-- a test's result tells whether the fact holds: what code promises of a test
+abbrev pub Tells : Bool → Type 0 → Type 0
+Tells r A = (r ≡ true → A) × (r ≡ false → ¬ A)

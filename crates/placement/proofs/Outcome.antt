@@ -80,7 +80,7 @@ module _ (B : Book) where
         let n = individuals B in (
           table t n,
           (
-            (length-table t n, each-table (Survives G (B .rules)) t n (λ j. complete G (B .rules) (w .well-formed) (w .rules-in) I (m .1) (I .element j) (c .element-lt j))),
+            (length-table t n, each-table (Survives G (B .rules)) t n (λ j _. complete G (B .rules) (w .well-formed) (w .rules-in) I (m .1) (I .element j) (c .element-lt j))),
             (
               each-map₃ {R = MeetsMembership G I} {S = HoldsMembership B (seat (table t n))} (λ q l u h.
                   rw (getD-table t n (q .individual) 0 u, ← typeOf-has G (w .well-formed) I c (I .element (q .individual)) (c .element-lt (q .individual)) (q .term) l) h)

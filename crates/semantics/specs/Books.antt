@@ -6,6 +6,7 @@ use Prim.Native.Nat.{ℕ, suc, _≤_, _<_, max}
 use native.Mathlib.Decide.{decLe}
 use lib.ListN.{length}
 use Rattle.chain.specs.Lists.{Each, highest}
+use Rattle.semantics.specs.Terms.{Term, name, not, and, or, some, all, top, bottom}
 use Rattle.semantics.specs.Interpretations.{Grading, WellFormed, Interpretation, OnChain, gradeAt}
 
 -- two terms
@@ -54,6 +55,34 @@ linkIndividuals q = max (suc (q .source)) (suc (q .target))
 -- their number: one more than the highest of all claims
 unfoldable pub individuals : Book → ℕ
 individuals B = max (highest (λ q. suc (q .individual)) (B .memberships)) (highest linkIndividuals (B .links))
+
+-- ---- names and roles: "each one more than the highest such number in the book (in terms and claims), or 0"
+
+abbrev pub nameAbove : Term → ℕ
+nameAbove (name a) = suc a
+nameAbove (not c) = 0
+nameAbove (and c d) = 0
+nameAbove (or c d) = 0
+nameAbove (some r c) = 0
+nameAbove (all r c) = 0
+nameAbove top = 0
+nameAbove bottom = 0
+
+abbrev pub roleAbove : Term → ℕ
+roleAbove (name a) = 0
+roleAbove (not c) = 0
+roleAbove (and c d) = 0
+roleAbove (or c d) = 0
+roleAbove (some r c) = suc r
+roleAbove (all r c) = suc r
+roleAbove top = 0
+roleAbove bottom = 0
+
+unfoldable pub nameCount : Book → ℕ
+nameCount B = highest nameAbove (B .grading .terms)
+
+unfoldable pub roleCount : Book → ℕ
+roleCount B = max (highest roleAbove (B .grading .terms)) (highest (λ q. suc (q .role)) (B .links))
 
 -- ---- what the checks 6 to 9 establish, as far as the theory asks it
 

@@ -1,0 +1,123 @@
+-- Laws of the terms' section: what "as described" comes to for each kind, and what the section's terms are.
+-- Assumes nothing.
+use mathlib.Core.Path.{_≡_, refl, sym, ap, subst, _∙_}
+use mathlib.Core.Bool.{Bool}
+use mathlib.Core.List.{List}
+use Prim.Native.Nat.{ℕ, zero, suc, _≤_, _<_}
+use native.Mathlib.Omega.{arith}
+use lib.ListN.{length}
+use Rattle.chain.specs.Decisions.{Tells}
+use Rattle.chain.proofs.Decisions.{tells-map}
+use Rattle.chain.proofs.Lists.{length-table, getD-table}
+use Rattle.semantics.specs.Terms.{Term, name, not, and, or, some, all, top, bottom, term, Children, Ordered}
+use Rattle.semantics.specs.Candidates.{NamesApart}
+use Rattle.sections.specs.Terms.{termOf, kindByte, aByte, InRange, Described, kindAt, aAt, termCount, termAt, termsOf, TermsRight}
+
+kindByte-lt : (t : Term) → kindByte t < 8
+kindByte-lt (name a) = omega arith
+kindByte-lt (not c) = omega arith
+kindByte-lt (and c d) = omega arith
+kindByte-lt (or c d) = omega arith
+kindByte-lt (some r c) = omega arith
+kindByte-lt (all r c) = omega arith
+kindByte-lt top = omega arith
+kindByte-lt bottom = omega arith
+
+-- the kind of a described term is 0 to 7
+pub described-kind : (i kind a b : ℕ) → Described i kind a b → kind < 8
+described-kind i kind a b d = omega (arith, kindByte-lt (termOf kind a b), d .1)
+
+-- where the kind is known, each operand has a bound: a byte that must be 0 is below 1
+module _ (r : Bool) (kind i a b : ℕ) where
+  at-kind : (k : ℕ) → kind ≡ k → Tells r (Described i k a b) → Tells r (Described i kind a b)
+  at-kind k e t = subst (λ (z : ℕ). Tells r (Described i z a b)) (sym e) t
+
+  pub described-name : kind ≡ 0 → Tells r ((a < 16) × (b < 1)) → Tells r (Described i kind a b)
+  described-name e t = at-kind 0 e (tells-map r (λ h. (h .0, refl, refl, omega arith)) (λ d. (d .0, omega (arith, d .3))) t)
+
+  pub described-not : kind ≡ 1 → Tells r ((a < i) × (b < 1)) → Tells r (Described i kind a b)
+  described-not e t = at-kind 1 e (tells-map r (λ h. (h .0, refl, refl, omega arith)) (λ d. (d .0, omega (arith, d .3))) t)
+
+  pub described-and : kind ≡ 2 → Tells r ((a < i) × (b < i)) → Tells r (Described i kind a b)
+  described-and e t = at-kind 2 e (tells-map r (λ h. (h, refl, refl, refl)) (λ d. d .0) t)
+
+  pub described-or : kind ≡ 3 → Tells r ((a < i) × (b < i)) → Tells r (Described i kind a b)
+  described-or e t = at-kind 3 e (tells-map r (λ h. (h, refl, refl, refl)) (λ d. d .0) t)
+
+  pub described-some : kind ≡ 4 → Tells r ((a < 8) × (b < i)) → Tells r (Described i kind a b)
+  described-some e t = at-kind 4 e (tells-map r (λ h. (h, refl, refl, refl)) (λ d. d .0) t)
+
+  pub described-all : kind ≡ 5 → Tells r ((a < 8) × (b < i)) → Tells r (Described i kind a b)
+  described-all e t = at-kind 5 e (tells-map r (λ h. (h, refl, refl, refl)) (λ d. d .0) t)
+
+  pub described-top : kind ≡ 6 → Tells r ((a < 1) × (b < 1)) → Tells r (Described i kind a b)
+  described-top e t = at-kind 6 e (tells-map r (λ h. (tt, refl, omega arith, omega arith)) (λ d. (omega (arith, d .2), omega (arith, d .3))) t)
+
+  pub described-bottom : kind ≡ 7 → Tells r ((a < 1) × (b < 1)) → Tells r (Described i kind a b)
+  described-bottom e t = at-kind 7 e (tells-map r (λ h. (tt, refl, omega arith, omega arith)) (λ d. (omega (arith, d .2), omega (arith, d .3))) t)
+
+-- ---- by kinds
+
+-- what holds of each kind's term, with the number of the kind, and of no term's kind above them, holds of three bytes
+pub by-kind : (P : ℕ → Term → Type 0) (a b : ℕ) → P 0 (name a) → P 1 (not a) → P 2 (and a b) → P 3 (or a b) → P 4 (some a b) → P 5 (all a b)
+    → P 6 top → P 7 bottom → ((k : ℕ) → 8 ≤ k → P k bottom) → (kind : ℕ) → P kind (termOf kind a b)
+by-kind P a b p0 p1 p2 p3 p4 p5 p6 p7 p8 zero = p0
+by-kind P a b p0 p1 p2 p3 p4 p5 p6 p7 p8 (suc zero) = p1
+by-kind P a b p0 p1 p2 p3 p4 p5 p6 p7 p8 (suc (suc zero)) = p2
+by-kind P a b p0 p1 p2 p3 p4 p5 p6 p7 p8 (suc (suc (suc zero))) = p3
+by-kind P a b p0 p1 p2 p3 p4 p5 p6 p7 p8 (suc (suc (suc (suc zero)))) = p4
+by-kind P a b p0 p1 p2 p3 p4 p5 p6 p7 p8 (suc (suc (suc (suc (suc zero))))) = p5
+by-kind P a b p0 p1 p2 p3 p4 p5 p6 p7 p8 (suc (suc (suc (suc (suc (suc zero)))))) = p6
+by-kind P a b p0 p1 p2 p3 p4 p5 p6 p7 p8 (suc (suc (suc (suc (suc (suc (suc zero))))))) = p7
+by-kind P a b p0 p1 p2 p3 p4 p5 p6 p7 p8 (suc (suc (suc (suc (suc (suc (suc (suc k)))))))) = p8 (suc (suc (suc (suc (suc (suc (suc (suc k)))))))) (omega arith)
+
+-- no other kind is described
+pub described-other : (i kind a b : ℕ) → ¬ (kind ≡ 0) → ¬ (kind ≡ 1) → ¬ (kind ≡ 2) → ¬ (kind ≡ 3) → ¬ (kind ≡ 4) → ¬ (kind ≡ 5) → ¬ (kind ≡ 6) → ¬ (kind ≡ 7)
+    → ¬ Described i kind a b
+described-other i kind a b n0 n1 n2 n3 n4 n5 n6 n7 d =
+    by-kind (λ k t. k ≡ kind → k < 8 → ⊥) a b (λ e _. n0 (sym e)) (λ e _. n1 (sym e)) (λ e _. n2 (sym e)) (λ e _. n3 (sym e)) (λ e _. n4 (sym e))
+    (λ e _. n5 (sym e)) (λ e _. n6 (sym e)) (λ e _. n7 (sym e)) (λ k h e l. omega arith) kind refl (described-kind i kind a b d)
+
+-- ---- the section's terms
+
+module _ (s : List ℕ) where
+  pub length-terms : length (termsOf s) ≡ termCount s
+  unfolding termsOf
+  length-terms = length-table (termAt s) (termCount s)
+
+  pub term-at : (i : ℕ) → i < termCount s → term (termsOf s) i ≡ termAt s i
+  unfolding termsOf
+  term-at i h = getD-table (termAt s) (termCount s) i bottom h
+
+  module _ (ok : TermsRight s) where
+    -- check 6 establishes what the theory asks: children stand below, and no name stands twice
+    pub terms-ordered : Ordered (termsOf s)
+    terms-ordered i l =
+        let h : i < termCount s = rw (← length-terms) l in
+        subst (Children i) (sym (term-at i h)) (go i (termAt s i) (ok i h .0 .0))
+      where
+        go : (i : ℕ) (t : Term) → InRange i t → Children i t
+        go i (name a) h = tt
+        go i (not c) h = h
+        go i (and c d) h = h
+        go i (or c d) h = h
+        go i (some r c) h = h .1
+        go i (all r c) h = h .1
+        go i top h = tt
+        go i bottom h = tt
+
+    -- a term that is a name has kind 0 and the name's number
+    name-bytes : (i a : ℕ) → i < termCount s → term (termsOf s) i ≡ name a → (kindAt s i ≡ 0) × (aAt s i ≡ a)
+    name-bytes i a h e =
+        let t : termAt s i ≡ name a = sym (term-at i h) ∙ e in
+        (sym (ok i h .0 .1) ∙ ap kindByte t, sym (ok i h .0 .2) ∙ ap aByte t)
+
+    pub terms-apart : NamesApart (termsOf s)
+    terms-apart i j a hi hj ei ej =
+        let li : i < termCount s = rw (← length-terms) hi in
+        let lj : j < termCount s = rw (← length-terms) hj in
+        let u = name-bytes i a li ei in
+        let v = name-bytes j a lj ej in
+        let m : ¬ (i < j) = λ l. ok j lj .1 i l (v .0, (u .0, v .1 ∙ sym (u .1))) in
+        let n : ¬ (j < i) = λ l. ok i li .1 j l (u .0, (v .0, u .1 ∙ sym (v .1))) in
+        omega arith
