@@ -62,9 +62,12 @@ tells-le a b = (leb-true a b, λ e h. omega (arith, leb-false a b e))
 pub tells-eq : (a b : ℕ) → Tells (eqb a b) (a ≡ b)
 tells-eq a b = (eqb-true a b, eqb-false a b)
 
--- of a number that is equal to the one compared
+-- of a number that is equal to the one asked about
 pub tells-below : (x a b : ℕ) → x ≡ a → Tells (ltb x b) (a < b)
 tells-below x a b e = (λ t. omega (arith, ltb-true x b t), λ t h. omega (arith, ltb-false x b t))
+
+pub tells-at-most : (x a b : ℕ) → x ≡ a → Tells (leb x b) (a ≤ b)
+tells-at-most x a b e = (λ t. omega (arith, leb-true x b t), λ t h. omega (arith, leb-false x b t))
 
 -- the first holds, and the second is told
 pub tells-then : {A B : Type 0} (r : Bool) → A → Tells r B → Tells r (A × B)

@@ -1,4 +1,5 @@
 pub mod Decisions
+pub mod Questions
 pub mod Search
 pub mod Lists
 pub mod Digits

@@ -8,7 +8,7 @@ use Prim.Native.Nat.{ℕ, zero, suc, _≤_, _<_}
 use native.Mathlib.Nat.{not-suc-le-zero, le-of-eq}
 use native.Mathlib.Omega.{arith}
 use lib.ListN.{length}
-use Rattle.chain.specs.Lists.{Mem, Each, each?, keep, from, Ascending}
+use Rattle.chain.specs.Lists.{Mem, Each, each?, keep, Ascending}
 use Rattle.chain.proofs.Lists.{each-mem, mem-keep, keep-mem, keep-less, mem-from, from-mem, length-from, ascending-from, ascending-keep}
 use Rattle.semantics.specs.Interpretations.{Grading}
 use Rattle.semantics.specs.Books.{Rule}

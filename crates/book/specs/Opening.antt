@@ -1,0 +1,64 @@
+-- What opening a book answers: the number of the first check that says no, or the sections. Document 01, "Every call on a book".
+-- Assumes nothing.
+use mathlib.Core.Path.{_≡_}
+use mathlib.Core.Option.{Option, none, some}
+use mathlib.Core.List.{List, [], _∷_}
+use Prim.Native.Nat.{ℕ}
+use Rattle.chain.specs.Questions.{Question, ask, firstNo}
+use Rattle.sections.specs.Terms.{TermsRight, termsRight?}
+use Rattle.sections.specs.Rules.{RulesRight, rulesRight?}
+use Rattle.sections.specs.Claims.{MembershipsRight, membershipsRight?, LinksRight, linksRight?}
+use Rattle.book.specs.Layout.{sectionsOf, LengthRight, lengthRight?, EditionRight, editionRight?, StepsRight, stepsRight?, CountsRight, countsRight?, LaidOut, laidOut?, termBytes, ruleBytes, membershipBytes, linkBytes, termsIn}
+use Rattle.book.specs.declared.Sections.{Sections}
+use Rattle.book.specs.declared.Opened.{Opened}
+use Rattle.book.specs.declared.Opened.the-variants.{Refused, Accepted}
+
+-- ---- the questions
+
+-- of the bodies that stand in b at s
+abbrev pub bodyQuestions : List ℕ → Sections → List Question
+bodyQuestions b s =
+    ask 6 (termsRight? (termBytes b s))
+    ∷ ask 7 (rulesRight? (ruleBytes b s) (termsIn s))
+    ∷ ask 8 (membershipsRight? (membershipBytes b s) (s .steps) (termsIn s))
+    ∷ ask 9 (linksRight? (linkBytes b s) (s .steps)) ∷ []
+
+-- "Every call on a book"
+abbrev pub bookQuestions : List ℕ → List Question
+bookQuestions b =
+    ask 1 (lengthRight? b)
+    ∷ ask 2 (editionRight? b)
+    ∷ ask 3 (stepsRight? b)
+    ∷ ask 4 (countsRight? b)
+    ∷ ask 5 (laidOut? b (sectionsOf b)) ∷ bodyQuestions b (sectionsOf b)
+
+-- "A book is accepted when all checks under "Every call on a book" say yes."
+unfoldable pub Accepts : List ℕ → Type 0
+Accepts b = firstNo (bookQuestions b) ≡ none
+
+-- what those checks say yes to
+pub record Right (b : List ℕ) (s : Sections) : Type 0 where
+  pub length-right : LengthRight b
+  pub edition-right : EditionRight b
+  pub steps-right : StepsRight b
+  pub counts-right : CountsRight b
+  pub laid-out : LaidOut b s
+  pub terms-right : TermsRight (termBytes b s)
+  pub rules-right : RulesRight (ruleBytes b s) (termsIn s)
+  pub memberships-right : MembershipsRight (membershipBytes b s) (s .steps) (termsIn s)
+  pub links-right : LinksRight (linkBytes b s) (s .steps)
+
+-- ---- opening
+
+-- the answer, by the first no
+abbrev pub opened : Sections → Option ℕ → Opened
+opened s none = Accepted s
+opened s (some n) = Refused n
+
+unfoldable pub openedOf : List ℕ → Opened
+openedOf b = opened (sectionsOf b) (firstNo (bookQuestions b))
+
+-- the document's number for each answer
+abbrev pub openedNumber : Opened → Option ℕ
+openedNumber (Refused n) = some n
+openedNumber (Accepted s) = none

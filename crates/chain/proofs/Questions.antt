@@ -1,0 +1,32 @@
+-- Laws of questions in order: a yes passes on to the rest, a no is the answer, and where there is none each question says yes.
+-- Assumes nothing.
+use mathlib.Core.Path.{_≡_, refl}
+use mathlib.Core.Bool.{Bool, true, false}
+use mathlib.Core.Option.{Option, none, some}
+use mathlib.Core.List.{List, [], _∷_}
+use Prim.Native.Nat.{ℕ}
+use native.Mathlib.Omega.{arith}
+use Rattle.chain.specs.Decisions.{says}
+use Rattle.chain.specs.Questions.{Question, ask, firstNo}
+use Rattle.chain.proofs.Decisions.{says-yes, says-no, says-true}
+
+pub first-empty : firstNo [] ≡ none
+unfolding firstNo
+first-empty = refl
+
+module _ {A : Type 0} (n : ℕ) (d : Dec A) (qs : List Question) where
+  pub first-yes : A → firstNo (ask n d ∷ qs) ≡ firstNo qs
+  unfolding firstNo
+  first-yes a = rw (says-yes d a, firstNo)
+
+  pub first-no : ¬ A → firstNo (ask n d ∷ qs) ≡ some n
+  unfolding firstNo
+  first-no m = rw (says-no d m, firstNo)
+
+  pub first-none : firstNo (ask n d ∷ qs) ≡ none → A × (firstNo qs ≡ none)
+  unfolding firstNo
+  first-none = go (says d) refl
+    where
+      go : (b : Bool) → says d ≡ b → (let o : Option ℕ = elim b [ true ↦ firstNo qs | false ↦ some n ] in o ≡ none) → A × (firstNo qs ≡ none)
+      go true e h = (says-true d e, h)
+      go false e h = let z : _≡_ {A = ℕ} 0 1 = cc in absurd (omega arith)
