@@ -1,19 +1,24 @@
 -- Laws of opening: which checks that were made give which answer, in their order.
 -- Assumes nothing.
-use mathlib.Core.Path.{_≡_, ap, _∙_}
-use mathlib.Core.List.{List}
-use Prim.Native.Nat.{ℕ, _≤_}
+use mathlib.Core.Path.{_≡_, refl, ap, ap₂, subst, _∙_}
+use mathlib.Core.Option.{Option, none, some}
+use mathlib.Core.List.{List, []}
+use Prim.Native.Nat.{ℕ, _≤_, _<_}
 use native.Mathlib.Omega.{arith}
 use lib.ListN.{length}
 use Rattle.chain.specs.Questions.{firstNo}
-use Rattle.chain.proofs.Questions.{first-empty, first-yes, first-no, first-none}
-use Rattle.sections.specs.Terms.{TermsRight}
+use Rattle.chain.proofs.Questions.{first-empty, first-yes, first-no, first-none, first-some-append, first-none-append}
+use Rattle.semantics.specs.Interpretations.{Grading, graded}
+use Rattle.semantics.specs.Candidates.{candidates}
+use Rattle.sections.specs.Terms.{TermsRight, termsOf}
 use Rattle.sections.specs.Rules.{RulesRight}
 use Rattle.sections.specs.Claims.{MembershipsRight, LinksRight}
-use Rattle.book.specs.Layout.{sectionsOf, LengthRight, EditionRight, StepsRight, CountsRight, LaidOut, termBytes, ruleBytes, membershipBytes, linkBytes, termsIn}
-use Rattle.book.specs.Opening.{bodyQuestions, Accepts, Right, opened, openedOf}
+use Rattle.book.specs.Layout.{steps, sectionsOf, LengthRight, EditionRight, StepsRight, CountsRight, LaidOut, termBytes, ruleBytes, membershipBytes, linkBytes, termsIn}
+use Rattle.book.specs.Reading.{bookOf}
+use Rattle.book.specs.Opening.{bodyQuestions, bookQuestions, Accepts, Right, opened, openedOf, fewCandidates?, counted, countedOf}
 use Rattle.book.specs.declared.Sections.{Sections}
 use Rattle.book.specs.declared.Opened.the-variants.{Refused, Accepted}
+use Rattle.book.specs.declared.Counted.the-variants.{Refused as Declined, Candidates}
 
 -- ---- the bodies
 
@@ -82,6 +87,15 @@ module _ (b : List ℕ) where
 
   -- ---- an accepted book passed every check
 
+  accepts-is : firstNo (bookQuestions b) ≡ none → Accepts b
+  unfolding Accepts
+  accepts-is e = e
+
+  -- byte 1 is N
+  sections-steps : sectionsOf b .steps ≡ steps b
+  unfolding sectionsOf
+  sections-steps = refl
+
   pub accepts-right : Accepts b → Right b (sectionsOf b)
   unfolding Accepts
   accepts-right h =
@@ -95,6 +109,7 @@ module _ (b : List ℕ) where
       let q8 = first-none _ _ _ (q7 .1) in
       let q9 = first-none _ _ _ (q8 .1) in
       record {
+        sections-are = refl;
         length-right = q1 .0;
         edition-right = q2 .0;
         steps-right = q3 .0;
@@ -105,3 +120,60 @@ module _ (b : List ℕ) where
         memberships-right = q8 .0;
         links-right = q9 .0;
       }
+
+  pub opened-accepted : (s : Sections) → openedOf b ≡ Accepted s → Right b s
+  unfolding openedOf
+  opened-accepted s = go (firstNo (bookQuestions b)) refl
+    where
+      go : (o : Option ℕ) → firstNo (bookQuestions b) ≡ o → opened (sectionsOf b) o ≡ Accepted s → Right b s
+      go none e h = let f : sectionsOf b ≡ s = cc in subst (Right b) f (accepts-right (accepts-is e))
+      go (some n) e h = let z : _≡_ {A = ℕ} 0 1 = cc in absurd (omega arith)
+
+  pub opened-refused : (n : ℕ) → openedOf b ≡ Refused n → firstNo (bookQuestions b) ≡ some n
+  unfolding openedOf
+  opened-refused n = go (firstNo (bookQuestions b)) refl
+    where
+      go : (o : Option ℕ) → firstNo (bookQuestions b) ≡ o → opened (sectionsOf b) o ≡ Refused n → firstNo (bookQuestions b) ≡ some n
+      go none e h = let z : _≡_ {A = ℕ} 0 1 = cc in absurd (omega arith)
+      go (some m) e h = let f : m ≡ n = cc in e ∙ ap {B = Option ℕ} some f
+
+-- ---- what later calls take from an accepted book
+
+module _ (b : List ℕ) (s : Sections) (ok : Right b s) where
+  pub right-ordered : (s .terms ≤ s .rules) × (s .rules ≤ s .memberships) × (s .memberships ≤ s .links) × (s .links ≤ s .end) × (s .end ≤ length b)
+  right-ordered = rw (ok .sections-are) (sections-ordered b (subst (LaidOut b) (ok .sections-are) (ok .laid-out)))
+
+  pub right-steps : (1 ≤ s .steps) × (s .steps ≤ 8)
+  right-steps = rw (ok .sections-are, sections-steps b) (ok .steps-right)
+
+  pub right-accepts : Accepts b
+  unfolding Accepts
+  right-accepts =
+      let e = ok .sections-are in
+      first-yes _ _ _ (ok .length-right) ∙ first-yes _ _ _ (ok .edition-right) ∙ first-yes _ _ _ (ok .steps-right) ∙ first-yes _ _ _ (ok .counts-right)
+      ∙ first-yes _ _ _ (subst (LaidOut b) e (ok .laid-out))
+      ∙ subst (λ (t : Sections). firstNo (bodyQuestions b t) ≡ none) e
+      (first-yes _ _ _ (ok .terms-right) ∙ first-yes _ _ _ (ok .rules-right) ∙ first-yes _ _ _ (ok .memberships-right) ∙ first-yes _ _ _ (ok .links-right) ∙ first-empty)
+
+  abbrev G : Grading
+  G = graded (s .steps) (termsOf (termBytes b s))
+
+  few : (k : ℕ) → candidates G ≡ k → candidates (bookOf b .grading) ≡ k
+  unfolding bookOf
+  few k e = subst (λ (t : Sections). candidates (graded (t .steps) (termsOf (termBytes b t))) ≡ k) (ok .sections-are) e
+
+  pub counted-few : (k : ℕ) → candidates G ≡ k → k ≤ 16384 → countedOf b ≡ Candidates k
+  unfolding countedOf Accepts
+  counted-few k e l =
+      ap₂ counted (few k e)
+      (first-none-append (bookQuestions b) _ right-accepts ∙ first-yes 10 (fewCandidates? b) [] (omega (arith, few k e)) ∙ first-empty)
+
+  pub counted-many : 16384 < candidates G → countedOf b ≡ Declined 10
+  unfolding countedOf Accepts
+  counted-many l =
+      ap (counted (candidates (bookOf b .grading)))
+      (first-none-append (bookQuestions b) _ right-accepts ∙ first-no 10 (fewCandidates? b) [] (λ h. omega (arith, few (candidates G) refl)))
+
+pub counted-refused : (b : List ℕ) (n : ℕ) → openedOf b ≡ Refused n → countedOf b ≡ Declined n
+unfolding countedOf
+counted-refused b n e = ap (counted (candidates (bookOf b .grading))) (first-some-append (bookQuestions b) _ n (opened-refused b n e))

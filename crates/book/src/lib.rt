@@ -5,7 +5,8 @@ ghost use lib.ListN.{length, getD};
 ghost use Rattle.chain.specs.Decisions.{Tells};
 ghost use Rattle.chain.specs.Questions.{firstNo};
 ghost use Rattle.book.specs.Layout.{wordAt, sectionsOf, LengthRight, StepsRight, CountsRight, LaidOut};
-ghost use Rattle.book.specs.Opening.{bodyQuestions, opened, openedOf};
+ghost use Rattle.book.specs.Opening.{bodyQuestions, Right, opened, openedOf, countedOf};
+use powers::Power;
 
 // The steps of the chain, where each body begins, and where the last ends.
 pub struct Sections {
@@ -21,6 +22,12 @@ pub struct Sections {
 pub enum Opened {
     Refused(u8),
     Accepted(Sections),
+}
+
+// The number of the first check that says no, or how many candidates there are.
+pub enum Counted {
+    Refused(u8),
+    Candidates(u64),
 }
 
 fn wide(x: u8) -> usize
@@ -159,4 +166,27 @@ pub fn open(b: &[u8]) -> Opened
         return Opened::Refused(5);
     }
     open_bodies(b, s)
+}
+
+// The number of candidates of the book whose sections are `s`, or the refusal 10.
+fn count_in(b: &[u8], s: Sections) -> Counted
+    requires { ⌜ Right (now b) s ⌝ }
+    ensures { λ r. ⌜ r ≡ countedOf (now (b .entry)) ⌝ }
+{
+    let terms = s.terms;
+    let rules = s.rules;
+    match sections::count_candidates(&b[terms..rules], s.steps) {
+        Power::Exactly(n) => Counted::Candidates(n),
+        Power::More => Counted::Refused(10),
+    }
+}
+
+// Checks a book, 1 to 10, and counts its candidates.
+pub fn count(b: &[u8]) -> Counted
+    ensures { λ r. ⌜ r ≡ countedOf (now (b .entry)) ⌝ }
+{
+    match open(b) {
+        Opened::Refused(n) => Counted::Refused(n),
+        Opened::Accepted(s) => count_in(b, s),
+    }
 }

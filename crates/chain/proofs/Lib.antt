@@ -2,5 +2,6 @@ pub mod Decisions
 pub mod Questions
 pub mod Search
 pub mod Lists
+pub mod Blocks
 pub mod Digits
 pub mod Connectives

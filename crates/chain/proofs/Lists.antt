@@ -68,6 +68,10 @@ module _ {A : Type 0} where
   each-table P f zero h = tt
   each-table P f (suc n) h = (h zero (omega arith), each-table P (λ i. f (suc i)) n (λ i l. h (suc i) (omega arith)))
 
+  pub highest-none : (f : A → ℕ) (g : ℕ → A) → 0 ≡ highest f (table g 0)
+  unfolding highest table
+  highest-none f g = refl
+
   -- one entry more, at the end, as a loop meets it
   pub highest-table : (f : A → ℕ) (g : ℕ → A) (n : ℕ) → highest f (table g (n + 1)) ≡ max (highest f (table g n)) (f (g n))
   unfolding highest table
@@ -121,6 +125,21 @@ module _ {A : Type 0} where
         go (yes q) (inl h) = inl (q, h)
         go (yes q) (inr l) = inr (omega arith)
         go (no n) h = inr (omega (arith, keep-le xs))
+
+-- the highest of a table, from other tables entry by entry
+pub highest-same : {A B : Type 0} (f : A → ℕ) (g : B → ℕ) (a : ℕ → A) (b : ℕ → B) (n : ℕ) → ((i : ℕ) → f (a i) ≡ g (b i))
+    → highest f (table a n) ≡ highest g (table b n)
+unfolding highest table
+highest-same f g a b zero e = refl
+highest-same f g a b (suc n) e = ap₂ max (e 0) (highest-same f g (λ i. a (suc i)) (λ i. b (suc i)) n (λ i. e (suc i)))
+
+pub highest-max : {A B C : Type 0} (f : A → ℕ) (g : B → ℕ) (h : C → ℕ) (a : ℕ → A) (b : ℕ → B) (c : ℕ → C) (n : ℕ)
+    → ((i : ℕ) → f (a i) ≡ max (g (b i)) (h (c i))) → highest f (table a n) ≡ max (highest g (table b n)) (highest h (table c n))
+unfolding highest table
+highest-max f g h a b c zero e = omega arith
+highest-max f g h a b c (suc n) e =
+    let ih = highest-max f g h (λ i. a (suc i)) (λ i. b (suc i)) (λ i. c (suc i)) n (λ i. e (suc i)) in
+    omega (arith, e 0)
 
 -- ---- where a number stands
 

@@ -3,7 +3,7 @@
 use mathlib.Core.Path.{_≡_, refl}
 use mathlib.Core.Bool.{Bool, true, false}
 use mathlib.Core.Option.{Option, none, some}
-use mathlib.Core.List.{List, [], _∷_}
+use mathlib.Core.List.{List, [], _∷_, _++_}
 use Prim.Native.Nat.{ℕ}
 use native.Mathlib.Omega.{arith}
 use Rattle.chain.specs.Decisions.{says}
@@ -30,3 +30,27 @@ module _ {A : Type 0} (n : ℕ) (d : Dec A) (qs : List Question) where
       go : (b : Bool) → says d ≡ b → (let o : Option ℕ = elim b [ true ↦ firstNo qs | false ↦ some n ] in o ≡ none) → A × (firstNo qs ≡ none)
       go true e h = (says-true d e, h)
       go false e h = let z : _≡_ {A = ℕ} 0 1 = cc in absurd (omega arith)
+
+-- ---- more questions after
+
+pub first-some-append : (qs rs : List Question) (n : ℕ) → firstNo qs ≡ some n → firstNo (qs ++ rs) ≡ some n
+unfolding firstNo
+first-some-append [] rs n e = let z : _≡_ {A = ℕ} 0 1 = cc in absurd (omega arith)
+first-some-append (q ∷ qs) rs n e = go (q .answer) (first-some-append qs rs n) e
+  where
+    go : (b : Bool) → (firstNo qs ≡ some n → firstNo (qs ++ rs) ≡ some n)
+        → (let o : Option ℕ = elim b [ true ↦ firstNo qs | false ↦ some (q .number) ] in o ≡ some n)
+        → (let o : Option ℕ = elim b [ true ↦ firstNo (qs ++ rs) | false ↦ some (q .number) ] in o ≡ some n)
+    go true ih h = ih h
+    go false ih h = h
+
+pub first-none-append : (qs rs : List Question) → firstNo qs ≡ none → firstNo (qs ++ rs) ≡ firstNo rs
+unfolding firstNo
+first-none-append [] rs e = refl
+first-none-append (q ∷ qs) rs e = go (q .answer) (first-none-append qs rs) e
+  where
+    go : (b : Bool) → (firstNo qs ≡ none → firstNo (qs ++ rs) ≡ firstNo rs)
+        → (let o : Option ℕ = elim b [ true ↦ firstNo qs | false ↦ some (q .number) ] in o ≡ none)
+        → (let o : Option ℕ = elim b [ true ↦ firstNo (qs ++ rs) | false ↦ some (q .number) ] in o ≡ firstNo rs)
+    go true ih h = ih h
+    go false ih h = let z : _≡_ {A = ℕ} 0 1 = cc in absurd (omega arith)

@@ -1,69 +1,52 @@
 -- The theorems are not vacuous: for books of the readings, models are obtained from them, and that there is none.
 -- Assumes nothing.
-use mathlib.Core.Path.{refl}
-use native.Mathlib.Decide.{decLt}
-use lib.Dec.{lit<}
-use Rattle.chain.specs.Decisions.{passed}
-use Rattle.chain.specs.Search.{first, rank}
-use Rattle.chain.specs.Lists.{highest, from, keep, each?}
-use Rattle.chain.specs.Digits.{digit}
-use Rattle.chain.proofs.Connectives.{zadeh-lawful}
-use Rattle.semantics.specs.Terms.{ordered?, value, deep}
-use Rattle.semantics.specs.Books.{individuals, Valid, Satisfiable, RulesSatisfiable}
-use Rattle.semantics.specs.Candidates.{bearer, opens?, places, homeAs, home, slot, candidates, gradeIn}
-use Rattle.semantics.specs.Links.{link}
-use Rattle.elimination.specs.Survivors.{fits?, settle, survivors}
-use Rattle.placement.specs.Dictionary.{tryEach}
-use Rattle.placement.specs.Outcome.{holds?, placement, outcome}
+use mathlib.Core.Path.{ap}
+use mathlib.Core.Option.{Option, none}
+use mathlib.Core.List.{List, []}
+use Prim.Native.Nat.{ℕ}
+use lib.ListN.{getD}
+use Rattle.semantics.specs.Books.{Satisfiable, RulesSatisfiable}
+use Rattle.book.specs.Reading.{bookOf}
+use Rattle.book.specs.Opening.{Accepts}
+use Rattle.book.proofs.Reading.{accepts-valid}
 use Rattle.demands.specs.Demand3.{outcome-1-holds-together, outcome-2-claims-fail, outcome-3-no-model}
-use Rattle.demands.specs.Readings.{printed, underSome, someBottom}
+use Rattle.demands.specs.Readings.{Answer, books-accepted, books-read, printed, underSome, someBottom}
 
-printed-valid : Valid (printed 2)
-unfolding ordered? decLt
-printed-valid = record {
-  well-formed = record { lawful = zadeh-lawful 2; ordered = passed (ordered? (printed 2 .grading .terms)) tt };
-  rules-in = ((lit< tt, lit< tt), ((lit< tt, lit< tt), tt));
-  terms-in = (lit< tt, tt);
-}
+-- entry k of a table's theorem
+abbrev accepted-at : (k : ℕ) → List (Option ℕ) → Option ℕ
+accepted-at k xs = getD xs k none
 
-pub printed-model : Satisfiable (printed 2)
-unfolding outcome placement individuals highest tryEach holds? survivors settle fits? from keep each? candidates places link gradeIn value deep slot home homeAs bearer first opens? rank digit
-printed-model = outcome-1-holds-together (printed 2) printed-valid .0 refl
+abbrev outcome-at : (k : ℕ) → List Answer → ℕ
+outcome-at k xs = getD xs k (record { outcome-is = 0; survivors-are = []; placed-at = none }) .outcome-is
 
-underSome-valid : Valid underSome
-unfolding ordered? decLt
-underSome-valid = record {
-  well-formed = record { lawful = zadeh-lawful 1; ordered = passed (ordered? (underSome .grading .terms)) tt };
-  rules-in = ((lit< tt, lit< tt), tt);
-  terms-in = (lit< tt, tt);
-}
+-- the printed book has a model
+printed-accepted : Accepts (printed 2)
+unfolding Accepts
+printed-accepted = ap (accepted-at 0) books-accepted
 
-pub underSome-model : Satisfiable underSome
-unfolding outcome placement individuals highest tryEach holds? survivors settle fits? from keep each? candidates places link gradeIn value deep slot home homeAs bearer first opens? rank digit
-underSome-model = outcome-1-holds-together underSome underSome-valid .0 refl
+pub printed-model : Satisfiable (bookOf (printed 2))
+printed-model = outcome-1-holds-together (bookOf (printed 2)) (accepts-valid (printed 2) printed-accepted) .0 (ap (outcome-at 0) books-read)
 
--- the same terms as the printed book, N 1: no interpretation of any size meets its rules
-printed-1-valid : Valid (printed 1)
-unfolding ordered? decLt
-printed-1-valid = record {
-  well-formed = record { lawful = zadeh-lawful 1; ordered = passed (ordered? (printed 1 .grading .terms)) tt };
-  rules-in = ((lit< tt, lit< tt), ((lit< tt, lit< tt), tt));
-  terms-in = (lit< tt, tt);
-}
+-- with N 1 no interpretation of any size meets its rules
+printed-1-accepted : Accepts (printed 1)
+unfolding Accepts
+printed-1-accepted = ap (accepted-at 1) books-accepted
 
-pub printed-1-none : ¬ RulesSatisfiable (printed 1)
-unfolding outcome placement individuals highest tryEach holds? survivors settle fits? from keep each? candidates places link gradeIn value deep slot home homeAs bearer first opens? rank digit
-printed-1-none = outcome-3-no-model (printed 1) printed-1-valid .0 refl
+pub printed-1-none : ¬ RulesSatisfiable (bookOf (printed 1))
+printed-1-none = outcome-3-no-model (bookOf (printed 1)) (accepts-valid (printed 1) printed-1-accepted) .0 (ap (outcome-at 1) books-read)
 
-someBottom-valid : Valid someBottom
-unfolding ordered? decLt
-someBottom-valid = record {
-  well-formed = record { lawful = zadeh-lawful 1; ordered = passed (ordered? (someBottom .grading .terms)) tt };
-  rules-in = tt;
-  terms-in = (lit< tt, tt);
-}
+-- A under "some r0 A" has a model
+underSome-accepted : Accepts underSome
+unfolding Accepts
+underSome-accepted = ap (accepted-at 3) books-accepted
+
+pub underSome-model : Satisfiable (bookOf underSome)
+underSome-model = outcome-1-holds-together (bookOf underSome) (accepts-valid underSome underSome-accepted) .0 (ap (outcome-at 3) books-read)
 
 -- "some r0 bottom" at least 1: the rules have a model, and none meets the claim
-pub someBottom-fails : RulesSatisfiable someBottom × ¬ Satisfiable someBottom
-unfolding outcome placement individuals highest tryEach holds? survivors settle fits? from keep each? candidates places link gradeIn value deep slot home homeAs bearer first opens? rank digit
-someBottom-fails = outcome-2-claims-fail someBottom someBottom-valid .0 refl
+someBottom-accepted : Accepts someBottom
+unfolding Accepts
+someBottom-accepted = ap (accepted-at 4) books-accepted
+
+pub someBottom-fails : RulesSatisfiable (bookOf someBottom) × ¬ Satisfiable (bookOf someBottom)
+someBottom-fails = outcome-2-claims-fail (bookOf someBottom) (accepts-valid someBottom someBottom-accepted) .0 (ap (outcome-at 4) books-read)

@@ -5,13 +5,21 @@ use mathlib.Core.Option.{Option, none, some}
 use mathlib.Core.List.{List, [], _∷_, map}
 use Prim.Native.Nat.{ℕ, _+_, _*_}
 use Rattle.chain.specs.Search.{first, rank}
-use Rattle.chain.specs.Lists.{highest, from, keep, each?}
+use Rattle.chain.specs.Lists.{table, highest, from, keep, each?}
 use Rattle.chain.specs.Digits.{digit}
-use Rattle.semantics.specs.Terms.{Term, name, not, all, bottom, value, deep}
+use Rattle.semantics.specs.Terms.{Term, name, all, value, deep}
 use Rattle.semantics.specs.Interpretations.{graded}
-use Rattle.semantics.specs.Books.{Rule, MembershipClaim, LinkClaim, Book, individuals, at-least, at-most}
+use Rattle.semantics.specs.Books.{Book, individuals}
 use Rattle.semantics.specs.Candidates.{bearer, opens?, places, homeAs, home, slot, candidates, gradeIn}
 use Rattle.semantics.specs.Links.{link}
+use Rattle.chain.specs.Decisions.{says}
+use Rattle.chain.specs.Questions.{firstNo}
+use Rattle.sections.specs.Terms.{termsRight?, termsOf}
+use Rattle.sections.specs.Rules.{rulesRight?, rulesOf}
+use Rattle.sections.specs.Claims.{membershipsRight?, linksRight?, membershipsOf, linksOf}
+use Rattle.book.specs.Layout.{wordAt, sectionsOf, lengthRight?, editionRight?, stepsRight?, countsRight?, laidOut?}
+use Rattle.book.specs.Reading.{bookOf}
+use Rattle.book.specs.Opening.{bookQuestions}
 use Rattle.elimination.specs.Survivors.{fits?, settle, survivors}
 use Rattle.placement.specs.Dictionary.{tryEach}
 use Rattle.placement.specs.Outcome.{survivorsOf, holds?, placement, outcome}
@@ -51,55 +59,66 @@ pub record Answer : Type 0 where
   pub survivors-are : List ℕ
   pub placed-at : Option (List ℕ)
 
+-- a book's bytes, and what is said of it: it is accepted, and decided so
+pub record Reading : Type 0 where
+  pub bytes : List ℕ
+  pub says : Answer
+
 abbrev pub answer : Book → Answer
 answer B = record { outcome-is = outcome B; survivors-are = survivorsOf B; placed-at = placement B }
 
-pub record Reading : Type 0 where
-  pub book : Book
-  pub says : Answer
-
-abbrev pub book : ℕ → List Term → List Rule → List MembershipClaim → List LinkClaim → Book
-book N ts rs ms ls = record { grading = graded N ts; rules = rs; memberships = ms; links = ls }
-
--- of individual 0, the term t at least, or at most, g
-abbrev atLeast : (t g : ℕ) → MembershipClaim
-atLeast t g = record { individual = 0; term = t; sense = at-least; grade = g }
-
-abbrev atMost : (t g : ℕ) → MembershipClaim
-atMost t g = record { individual = 0; term = t; sense = at-most; grade = g }
-
-abbrev rule : (left right : ℕ) → Rule
-rule l r = record { left = l; right = r }
-
 -- the printed book, on N steps: A and "not A" each not greater than the other, A at least 1
-abbrev pub printed : ℕ → Book
-printed N = book N (name 0 ∷ not 0 ∷ []) (rule 0 1 ∷ rule 1 0 ∷ []) (atLeast 0 1 ∷ []) []
+abbrev pub printed : ℕ → List ℕ
+printed N =
+    0x01 ∷ N ∷ 0x00 ∷ 0x12 ∷ 0x00 ∷ 0x02 ∷ 0x00 ∷ 0x18 ∷ 0x00 ∷ 0x02 ∷ 0x00 ∷ 0x1c ∷ 0x00 ∷ 0x01 ∷ 0x00 ∷ 0x20 ∷ 0x00 ∷ 0x00
+    ∷ 0x00 ∷ 0x00 ∷ 0x00 ∷ 0x01 ∷ 0x00 ∷ 0x00
+    ∷ 0x00 ∷ 0x01 ∷ 0x01 ∷ 0x00
+    ∷ 0x00 ∷ 0x00 ∷ 0x00 ∷ 0x01 ∷ []
+
+-- no terms or claims, N 1
+abbrev pub nothing : List ℕ
+nothing =
+    0x01 ∷ 0x01 ∷ 0x00 ∷ 0x12 ∷ 0x00 ∷ 0x00 ∷ 0x00 ∷ 0x12 ∷ 0x00 ∷ 0x00 ∷ 0x00 ∷ 0x12 ∷ 0x00 ∷ 0x00 ∷ 0x00 ∷ 0x12 ∷ 0x00 ∷ 0x00 ∷ []
 
 -- A not greater than "some r0 A", claim A at least 1, N 1
-abbrev pub underSome : Book
-underSome = book 1 (name 0 ∷ Term.some 0 0 ∷ []) (rule 0 1 ∷ []) (atLeast 0 1 ∷ []) []
+abbrev pub underSome : List ℕ
+underSome =
+    0x01 ∷ 0x01 ∷ 0x00 ∷ 0x12 ∷ 0x00 ∷ 0x02 ∷ 0x00 ∷ 0x18 ∷ 0x00 ∷ 0x01 ∷ 0x00 ∷ 0x1a ∷ 0x00 ∷ 0x01 ∷ 0x00 ∷ 0x1e ∷ 0x00 ∷ 0x00
+    ∷ 0x00 ∷ 0x00 ∷ 0x00 ∷ 0x04 ∷ 0x00 ∷ 0x00
+    ∷ 0x00 ∷ 0x01
+    ∷ 0x00 ∷ 0x00 ∷ 0x00 ∷ 0x01 ∷ []
 
 -- "some r0 bottom" at least 1, N 1
-abbrev pub someBottom : Book
-someBottom = book 1 (bottom ∷ Term.some 0 0 ∷ []) [] (atLeast 1 1 ∷ []) []
+abbrev pub someBottom : List ℕ
+someBottom =
+    0x01 ∷ 0x01 ∷ 0x00 ∷ 0x12 ∷ 0x00 ∷ 0x02 ∷ 0x00 ∷ 0x18 ∷ 0x00 ∷ 0x00 ∷ 0x00 ∷ 0x18 ∷ 0x00 ∷ 0x01 ∷ 0x00 ∷ 0x1c ∷ 0x00 ∷ 0x00
+    ∷ 0x07 ∷ 0x00 ∷ 0x00 ∷ 0x04 ∷ 0x00 ∷ 0x00
+    ∷ 0x00 ∷ 0x01 ∷ 0x00 ∷ 0x01 ∷ []
 
--- A and "not A" both at least 1
-abbrev both : ℕ → Book
-both N = book N (name 0 ∷ not 0 ∷ []) [] (atLeast 0 1 ∷ atLeast 1 1 ∷ []) []
+-- A and "not A" both at least 1, on N steps
+abbrev both : ℕ → List ℕ
+both N =
+    0x01 ∷ N ∷ 0x00 ∷ 0x12 ∷ 0x00 ∷ 0x02 ∷ 0x00 ∷ 0x18 ∷ 0x00 ∷ 0x00 ∷ 0x00 ∷ 0x18 ∷ 0x00 ∷ 0x02 ∷ 0x00 ∷ 0x20 ∷ 0x00 ∷ 0x00
+    ∷ 0x00 ∷ 0x00 ∷ 0x00 ∷ 0x01 ∷ 0x00 ∷ 0x00
+    ∷ 0x00 ∷ 0x00 ∷ 0x00 ∷ 0x01 ∷ 0x00 ∷ 0x01 ∷ 0x00 ∷ 0x01 ∷ []
 
 -- N 2, link of 0 to itself at least 2, "all r0 A" at least 2, A at most g
-abbrev loop : ℕ → Book
-loop g = book 2 (name 0 ∷ all 0 0 ∷ []) [] (atLeast 1 2 ∷ atMost 0 g ∷ []) (record { role = 0; source = 0; target = 0; grade = 2 } ∷ [])
+abbrev loop : ℕ → List ℕ
+loop g =
+    0x01 ∷ 0x02 ∷ 0x00 ∷ 0x12 ∷ 0x00 ∷ 0x02 ∷ 0x00 ∷ 0x18 ∷ 0x00 ∷ 0x00 ∷ 0x00 ∷ 0x18 ∷ 0x00 ∷ 0x02 ∷ 0x00 ∷ 0x20 ∷ 0x00 ∷ 0x01
+    ∷ 0x00 ∷ 0x00 ∷ 0x00 ∷ 0x05 ∷ 0x00 ∷ 0x00
+    ∷ 0x00 ∷ 0x01 ∷ 0x00 ∷ 0x02 ∷ 0x00 ∷ 0x00 ∷ 0x01 ∷ g
+    ∷ 0x00 ∷ 0x00 ∷ 0x00 ∷ 0x02 ∷ []
 
-abbrev reading : Book → ℕ → List ℕ → Option (List ℕ) → Reading
-reading B o s p = record { book = B; says = record { outcome-is = o; survivors-are = s; placed-at = p } }
+abbrev reading : List ℕ → ℕ → List ℕ → Option (List ℕ) → Reading
+reading b o s p = record { bytes = b; says = record { outcome-is = o; survivors-are = s; placed-at = p } }
 
 abbrev pub bookReadings : List Reading
 bookReadings =
     -- The printed book. The same with N 1: outcome 3.
     reading (printed 2) 1 (1 ∷ []) (some (1 ∷ [])) ∷ reading (printed 1) 3 [] none
     -- No terms or claims, N 1: one survivor, outcome 1.
-    ∷ reading (book 1 [] [] [] []) 1 (0 ∷ []) (some [])
+    ∷ reading nothing 1 (0 ∷ []) (some [])
     -- survivors 0, 2, 3, placed at 3
     ∷ reading underSome 1 (0 ∷ 2 ∷ 3 ∷ []) (some (3 ∷ []))
     -- outcome 2, one survivor
@@ -109,6 +128,11 @@ bookReadings =
     -- A at most 1: outcome 2; at most 2: outcome 1
     ∷ reading (loop 1) 2 (from 0 9) none ∷ reading (loop 2) 1 (from 0 9) (some (8 ∷ [])) ∷ []
 
-pub books-read : map (λ q. answer (q .book)) bookReadings ≡ map (λ q. q .says) bookReadings
-unfolding outcome placement individuals highest tryEach holds? survivors settle fits? from keep each? candidates places link gradeIn value deep slot home homeAs bearer first opens? rank digit
+-- the reader accepts each, and each is decided as the reading says
+pub books-accepted : map (λ q. firstNo (bookQuestions (q .bytes))) bookReadings ≡ map (λ q. none) bookReadings
+unfolding firstNo says lengthRight? editionRight? stepsRight? countsRight? laidOut? sectionsOf wordAt termsRight? rulesRight? membershipsRight? linksRight?
+books-accepted = refl
+
+pub books-read : map (λ q. answer (bookOf (q .bytes))) bookReadings ≡ map (λ q. q .says) bookReadings
+unfolding bookOf sectionsOf wordAt termsOf rulesOf membershipsOf linksOf table outcome placement individuals highest tryEach holds? survivors settle fits? from keep each? candidates places link gradeIn value deep slot home homeAs bearer first opens? rank digit
 books-read = refl

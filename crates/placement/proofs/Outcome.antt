@@ -12,7 +12,7 @@ use lib.ListN.{length}
 use Rattle.chain.specs.Lists.{Each, table, index}
 use Rattle.chain.proofs.Lists.{mem-at, at-mem, each-mem, each-map₂, each-map₃, length-table, getD-table, each-table, each-highest, index-lt, at-index}
 use Rattle.semantics.specs.Interpretations.{Grading}
-use Rattle.semantics.specs.Books.{Book, linkIndividuals, individuals, Valid, MeetsMembership, MeetsLink, RuleModel, MeetsClaims, RulesSatisfiable, Satisfiable}
+use Rattle.semantics.specs.Books.{Book, membershipIndividuals, linkIndividuals, individuals, Valid, MeetsMembership, MeetsLink, RuleModel, MeetsClaims, RulesSatisfiable, Satisfiable}
 use Rattle.semantics.specs.Candidates.{typeOf}
 use Rattle.semantics.proofs.Candidates.{typeOf-has}
 use Rattle.elimination.specs.Survivors.{Survives}
@@ -56,9 +56,9 @@ module _ (B : Book) where
 
   module _ (w : Valid B) where
     -- every claim is about individuals of the book
-    members-in : Each (λ q. suc (q .individual) ≤ individuals B) (B .memberships)
+    members-in : Each (λ q. membershipIndividuals q ≤ individuals B) (B .memberships)
     unfolding individuals
-    members-in = each-highest (λ q. suc (q .individual)) (B .memberships) (individuals B) (omega arith)
+    members-in = each-highest membershipIndividuals (B .memberships) (individuals B) (omega arith)
 
     links-in : Each (λ q. linkIndividuals q ≤ individuals B) (B .links)
     unfolding individuals

@@ -49,12 +49,15 @@ pub record Book : Type 0 where
 -- ---- the individuals: "0 up to the highest one claimed; without claims there are none"
 
 -- one more than the highest individual of a claim
+abbrev pub membershipIndividuals : MembershipClaim → ℕ
+membershipIndividuals q = suc (q .individual)
+
 abbrev pub linkIndividuals : LinkClaim → ℕ
 linkIndividuals q = max (suc (q .source)) (suc (q .target))
 
 -- their number: one more than the highest of all claims
 unfoldable pub individuals : Book → ℕ
-individuals B = max (highest (λ q. suc (q .individual)) (B .memberships)) (highest linkIndividuals (B .links))
+individuals B = max (highest membershipIndividuals (B .memberships)) (highest linkIndividuals (B .links))
 
 -- ---- names and roles: "each one more than the highest such number in the book (in terms and claims), or 0"
 
@@ -78,11 +81,14 @@ roleAbove (all r c) = suc r
 roleAbove top = 0
 roleAbove bottom = 0
 
+abbrev pub linkRoles : LinkClaim → ℕ
+linkRoles q = suc (q .role)
+
 unfoldable pub nameCount : Book → ℕ
 nameCount B = highest nameAbove (B .grading .terms)
 
 unfoldable pub roleCount : Book → ℕ
-roleCount B = max (highest roleAbove (B .grading .terms)) (highest (λ q. suc (q .role)) (B .links))
+roleCount B = max (highest roleAbove (B .grading .terms)) (highest linkRoles (B .links))
 
 -- ---- what the checks 6 to 9 establish, as far as the theory asks it
 

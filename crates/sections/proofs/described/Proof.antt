@@ -6,6 +6,9 @@ use Rattle.sections.proofs.Terms.{described-other, described-name, desc
 use Rattle.sections.proofs.described.Statement.{statement}
 use Rattle.sections.proofs.described.Tie as tie
 
+-- `sections::described` meets its contract. Where the kind is known, being as described is a bound on each operand.
+-- Assumes nothing.
+
 both-below-requires : tie.Need-both-below-requires
 both-below-requires c κs = search needs
 

@@ -6,6 +6,9 @@ use Rattle.chain.proofs.Decisions.{tells-no, tells-then, tells-le}
 use Rattle.sections.proofs.link_right.Statement.{statement}
 use Rattle.sections.proofs.link_right.Tie as tie
 
+-- `sections::link_right` meets its contract.
+-- Assumes nothing.
+
 mul-if1 : tie.Need-mul-if1
 mul-if1 c = search needs
 

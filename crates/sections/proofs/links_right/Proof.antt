@@ -9,6 +9,9 @@ use Rattle.sections.specs.Claims.{claimCount, LinkRight}
 use Rattle.sections.proofs.links_right.Statement.{statement}
 use Rattle.sections.proofs.links_right.Tie as tie
 
+-- `sections::links_right` meets its contract. The loop has passed the claims below `i`; each call tells of one more.
+-- Assumes nothing.
+
 abbrev Inv-loop : tie.InvT-loop
 Inv-loop s steps count i₀ i = (i ≤ claimCount s) × ((j : ℕ) → j < i → LinkRight s steps j)
 

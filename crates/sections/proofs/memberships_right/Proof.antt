@@ -9,6 +9,9 @@ use Rattle.sections.specs.Claims.{claimCount, MembershipRight}
 use Rattle.sections.proofs.memberships_right.Statement.{statement}
 use Rattle.sections.proofs.memberships_right.Tie as tie
 
+-- `sections::memberships_right` meets its contract. The loop has passed the claims below `i`; each call tells of one more.
+-- Assumes nothing.
+
 abbrev Inv-loop : tie.InvT-loop
 Inv-loop s steps n count i₀ i = (i ≤ claimCount s) × ((j : ℕ) → j < i → MembershipRight s steps n j)
 

@@ -9,6 +9,9 @@ use Rattle.sections.specs.Terms.{SameName}
 use Rattle.sections.proofs.new_name.Statement.{statement}
 use Rattle.sections.proofs.new_name.Tie as tie
 
+-- `sections::new_name` meets its contract. No term below `j` has the name.
+-- Assumes nothing.
+
 abbrev Inv-loop : tie.InvT-loop
 Inv-loop s i j₀ j = (j ≤ i) × ((k : ℕ) → k < j → SameName s i k → ⊥)
 

@@ -6,6 +6,9 @@ use Rattle.chain.proofs.Decisions.{tells-no, tells-then, tells-below}
 use Rattle.sections.proofs.rule_right.Statement.{statement}
 use Rattle.sections.proofs.rule_right.Tie as tie
 
+-- `sections::rule_right` meets its contract.
+-- Assumes nothing.
+
 mul-wide : tie.Need-mul-wide
 mul-wide c = search needs
 
@@ -31,7 +34,7 @@ wide-requires-2 : tie.Need-wide-requires-2
 wide-requires-2 c κs = search needs
 
 returns-2 : tie.Need-returns-2
-returns-2 c = tells-then _ (omega arith) (tells-below _ _ _ (c .wide2 .ensures))
+returns-2 c = tells-then _ (omega arith) (tells-below _ _ _ (c .wide2 .ensures .0))
 
 pub rule-right-spec : {M : Type 1} → statement M
 rule-right-spec =

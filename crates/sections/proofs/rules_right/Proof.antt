@@ -9,6 +9,9 @@ use Rattle.sections.specs.Rules.{ruleCount, RuleRight}
 use Rattle.sections.proofs.rules_right.Statement.{statement}
 use Rattle.sections.proofs.rules_right.Tie as tie
 
+-- `sections::rules_right` meets its contract. The loop has passed the rules below `i`; each call tells of one more.
+-- Assumes nothing.
+
 abbrev Inv-loop : tie.InvT-loop
 Inv-loop s n count i₀ i = (i ≤ ruleCount s) × ((j : ℕ) → j < i → RuleRight s n j)
 

@@ -5,6 +5,9 @@ use Rattle.chain.proofs.Decisions.{tells-no, tells-then, tells-eq}
 use Rattle.sections.proofs.same_name.Statement.{statement}
 use Rattle.sections.proofs.same_name.Tie as tie
 
+-- `sections::same_name` meets its contract.
+-- Assumes nothing.
+
 mul-if1 : tie.Need-mul-if1
 mul-if1 c = search needs
 

@@ -5,6 +5,9 @@ use Rattle.chain.proofs.Decisions.{tells-yes, tells-no, tells-then, told-yes, t
 use Rattle.sections.proofs.term_right.Statement.{statement}
 use Rattle.sections.proofs.term_right.Tie as tie
 
+-- `sections::term_right` meets its contract.
+-- Assumes nothing.
+
 mul-kind : tie.Need-mul-kind
 mul-kind c = search needs
 

@@ -9,6 +9,9 @@ use Rattle.sections.specs.Terms.{termCount, TermRight}
 use Rattle.sections.proofs.terms_right.Statement.{statement}
 use Rattle.sections.proofs.terms_right.Tie as tie
 
+-- `sections::terms_right` meets its contract. The loop has passed the terms below `i`; each call tells of one more.
+-- Assumes nothing.
+
 abbrev Inv-loop : tie.InvT-loop
 Inv-loop s count i₀ i = (i ≤ termCount s) × ((j : ℕ) → j < i → TermRight s j)
 

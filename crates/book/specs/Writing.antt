@@ -1,0 +1,65 @@
+-- From an abstract book back to its bytes: document 01, "The book", read the other way.
+-- Assumes nothing.
+use mathlib.Core.List.{List, [], _∷_, _++_, flatMap}
+use Prim.Native.Nat.{ℕ, _+_, _*_, _/_, _%_, _<_}
+use lib.ListN.{length, getD}
+use Rattle.semantics.specs.Terms.{Term}
+use Rattle.semantics.specs.Books.{Rule, Sense, at-least, at-most, MembershipClaim, LinkClaim, Book}
+use Rattle.sections.specs.Terms.{kindByte, aByte, bByte}
+
+-- the numbers of a list of bytes
+abbrev pub Bytes : List ℕ → Type 0
+Bytes b = (i : ℕ) → getD b i 0 < 256
+
+-- "two-byte numbers have the high byte first"
+abbrev pub wordBytes : ℕ → List ℕ
+wordBytes v = v / 256 ∷ v % 256 ∷ []
+
+-- ---- the records of the bodies
+
+-- "A term is three bytes: kind, a, b."
+abbrev pub termBytesOf : Term → List ℕ
+termBytesOf t = kindByte t ∷ aByte t ∷ bByte t ∷ []
+
+-- "rules (2: left, right)"
+abbrev pub ruleBytesOf : Rule → List ℕ
+ruleBytesOf q = q .left ∷ q .right ∷ []
+
+-- "sense 0 "at least" or 1 "at most""
+abbrev pub senseByte : Sense → ℕ
+senseByte at-least = 0
+senseByte at-most = 1
+
+-- "membership claims (4: individual 0–7, term, sense .., grade)"
+abbrev pub membershipBytesOf : MembershipClaim → List ℕ
+membershipBytesOf q = q .individual ∷ q .term ∷ senseByte (q .sense) ∷ q .grade ∷ []
+
+-- "link claims (4: role, from, to, grade ..)"
+abbrev pub linkBytesOf : LinkClaim → List ℕ
+linkBytesOf q = q .role ∷ q .source ∷ q .target ∷ q .grade ∷ []
+
+-- ---- the book
+
+-- "four entries of offset and count", for so many terms, rules, membership claims and link claims: "The bodies follow from byte 18 in that order,
+-- without gaps."
+abbrev pub entriesOf : (terms rules memberships links : ℕ) → List ℕ
+entriesOf t r m l =
+    18 ∷ t
+    ∷ (18 + 3 * t) ∷ r
+    ∷ (18 + 3 * t + 2 * r) ∷ m
+    ∷ (18 + 3 * t + 2 * r + 4 * m) ∷ l ∷ []
+
+-- "Contents first: byte 0 is the edition, 1; byte 1 is N; then four entries of offset and count (two bytes each)"
+abbrev pub contentsOf : Book → List ℕ
+contentsOf B =
+    1 ∷ B .grading .steps
+    ∷ flatMap wordBytes (entriesOf (length (B .grading .terms)) (length (B .rules)) (length (B .memberships)) (length (B .links)))
+
+-- the contents, and then the bodies
+unfoldable pub bytesOf : Book → List ℕ
+bytesOf B =
+    contentsOf B
+    ++ flatMap termBytesOf (B .grading .terms)
+    ++ flatMap ruleBytesOf (B .rules)
+    ++ flatMap membershipBytesOf (B .memberships)
+    ++ flatMap linkBytesOf (B .links)
