@@ -7,6 +7,7 @@ ghost use Rattle.chain.specs.Questions.{firstNo};
 ghost use Rattle.book.specs.Layout.{wordAt, sectionsOf, LengthRight, StepsRight, CountsRight, LaidOut};
 ghost use Rattle.book.specs.Opening.{bodyQuestions, Right, opened, openedOf, countedOf};
 use powers::Power;
+use sections::wide;
 
 // The steps of the chain, where each body begins, and where the last ends.
 pub struct Sections {
@@ -30,12 +31,6 @@ pub enum Counted {
     Candidates(u64),
 }
 
-fn wide(x: u8) -> usize
-    ensures { λ r. ⌜ (r ≡ x) × (r < 256) ⌝ }
-{
-    x as usize
-}
-
 // A two-byte number, the high byte first.
 fn word(b: &[u8], at: usize) -> usize
     requires { ⌜ at + 1 < length (now b) ⌝ }
@@ -47,11 +42,11 @@ fn word(b: &[u8], at: usize) -> usize
 fn length_right(b: &[u8]) -> bool
     ensures { λ r. ⌜ Tells r (LengthRight (now (b .entry))) ⌝ }
 {
-    let n = b.len();
-    if n < 18 {
+    let length = b.len();
+    if length < 18 {
         return false;
     }
-    n <= 850
+    length <= 850
 }
 
 fn steps_right(b: &[u8]) -> bool
@@ -175,7 +170,7 @@ fn count_in(b: &[u8], s: Sections) -> Counted
 {
     let terms = s.terms;
     let rules = s.rules;
-    match sections::count_candidates(&b[terms..rules], s.steps) {
+    match counts::count_candidates(&b[terms..rules], s.steps) {
         Power::Exactly(n) => Counted::Candidates(n),
         Power::More => Counted::Refused(10),
     }

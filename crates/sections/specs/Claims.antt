@@ -21,10 +21,6 @@ module _ (s : List ℕ) where
   abbrev pub senseAt : ℕ → ℕ
   senseAt i = getD s (4 * i + 2) 0
 
-  -- byte k of each record
-  unfoldable pub column : (k : ℕ) → List ℕ
-  column k = table (λ i. getD s (4 * i + k) 0) claimCount
-
   -- ---- membership claims
 
   abbrev pub membershipAt : ℕ → MembershipClaim

@@ -1,19 +1,12 @@
 // The sections of a book, each checked over its own stretch of bytes.
 ghost use mathlib.Core.Path.{_≡_};
-ghost use Prim.Native.Nat.{ℕ, _+_, _*_, _/_, _<_, _≤_, suc, max};
-ghost use lib.ListN.{length, getD};
+ghost use Prim.Native.Nat.{ℕ, _<_};
 ghost use Rattle.chain.specs.Decisions.{Tells};
-ghost use Rattle.chain.specs.Lists.{highest};
-ghost use Rattle.semantics.specs.Books.{nameAbove, roleAbove, linkRoles, membershipIndividuals, linkIndividuals};
-ghost use Rattle.powers.specs.Bounded.{bounded};
-ghost use Rattle.semantics.specs.Interpretations.{graded};
-ghost use Rattle.semantics.specs.Candidates.{place, IsPlace, placesBefore, candidates};
-ghost use Rattle.sections.specs.Terms.{termOf, termAt, termsOf, termCount, Described, SameName, TermRight, TermsRight};
+ghost use Rattle.sections.specs.Terms.{termCount, Described, SameName, TermRight, TermsRight};
 ghost use Rattle.sections.specs.Rules.{ruleCount, RuleRight, RulesRight};
-ghost use Rattle.sections.specs.Claims.{claimCount, column, membershipsOf, linksOf, MembershipRight, MembershipsRight, LinkRight, LinksRight};
-use powers::Power;
-
-fn wide(x: u8) -> usize
+ghost use Rattle.sections.specs.Claims.{claimCount, MembershipRight, MembershipsRight, LinkRight, LinksRight};
+// A byte as a number to count and index with.
+pub fn wide(x: u8) -> usize
     ensures { λ r. ⌜ (r ≡ x) × (r < 256) ⌝ }
 {
     x as usize
@@ -118,43 +111,6 @@ pub fn terms_right(s: &[u8]) -> bool
     true
 }
 
-fn is_place(kind: u8) -> bool
-    ensures { λ r. ⌜ ((a b : ℕ) → Tells r (IsPlace (place (termOf kind a b)))) ⌝ }
-{
-    if kind == 0 {
-        return true;
-    }
-    if kind == 4 {
-        return true;
-    }
-    kind == 5
-}
-
-// How many of the terms are places.
-pub fn count_places(s: &[u8]) -> usize
-    ensures { λ r. ⌜ r ≡ placesBefore (termsOf (now (s .entry))) (termCount (now (s .entry))) ⌝ }
-{
-    let count = s.len() / 3;
-    let mut found = 0;
-    let mut i = 0;
-    while i < count {
-        if is_place(s[3 * i]) {
-            found += 1;
-        }
-        i += 1;
-    }
-    found
-}
-
-// The number of candidates on `steps` steps, up to 16,384 (check 10).
-pub fn count_candidates(s: &[u8], steps: u8) -> Power
-    requires { ⌜ TermsRight (now s) ⌝ }
-    requires { ⌜ (1 ≤ steps) × (steps ≤ 8) ⌝ }
-    ensures { λ r. ⌜ r ≡ bounded (candidates (graded steps (termsOf (now (s .entry))))) ⌝ }
-{
-    powers::bounded_power(steps, count_places(s))
-}
-
 // ---- rules: two bytes each (check 7)
 
 fn rule_right(s: &[u8], i: usize, n: usize) -> bool
@@ -184,17 +140,24 @@ pub fn rules_right(s: &[u8], n: usize) -> bool
 
 // ---- claims: four bytes each (checks 8 and 9)
 
+// Individuals and roles are 0 to 7; a sense is "at least" or "at most".
+const INDIVIDUALS: u8 = 8;
+
+const ROLES: u8 = 8;
+
+const SENSES: u8 = 2;
+
 fn membership_right(s: &[u8], i: usize, steps: u8, n: usize) -> bool
     requires { ⌜ i < claimCount (now s) ⌝ }
     ensures { λ r. ⌜ Tells r (MembershipRight (now (s .entry)) steps n i) ⌝ }
 {
-    if 8 <= s[4 * i] {
+    if INDIVIDUALS <= s[4 * i] {
         return false;
     }
     if n <= wide(s[4 * i + 1]) {
         return false;
     }
-    if 2 <= s[4 * i + 2] {
+    if SENSES <= s[4 * i + 2] {
         return false;
     }
     s[4 * i + 3] <= steps
@@ -219,13 +182,13 @@ fn link_right(s: &[u8], i: usize, steps: u8) -> bool
     requires { ⌜ i < claimCount (now s) ⌝ }
     ensures { λ r. ⌜ Tells r (LinkRight (now (s .entry)) steps i) ⌝ }
 {
-    if 8 <= s[4 * i] {
+    if ROLES <= s[4 * i] {
         return false;
     }
-    if 8 <= s[4 * i + 1] {
+    if INDIVIDUALS <= s[4 * i + 1] {
         return false;
     }
-    if 8 <= s[4 * i + 2] {
+    if INDIVIDUALS <= s[4 * i + 2] {
         return false;
     }
     s[4 * i + 3] <= steps
@@ -244,93 +207,4 @@ pub fn links_right(s: &[u8], steps: u8) -> bool
         i += 1;
     }
     true
-}
-
-// ---- how many names, roles and individuals: one more than the highest, or 0
-
-fn larger(x: usize, y: usize) -> usize
-    ensures { λ r. ⌜ r ≡ max x y ⌝ }
-{
-    if x < y { y } else { x }
-}
-
-fn name_above(s: &[u8], i: usize) -> usize
-    requires { ⌜ i < termCount (now s) ⌝ }
-    ensures { λ r. ⌜ r ≡ nameAbove (termAt (now (s .entry)) i) ⌝ }
-{
-    if s[3 * i] == 0 {
-        return wide(s[3 * i + 1]) + 1;
-    }
-    0
-}
-
-fn role_above(s: &[u8], i: usize) -> usize
-    requires { ⌜ i < termCount (now s) ⌝ }
-    ensures { λ r. ⌜ r ≡ roleAbove (termAt (now (s .entry)) i) ⌝ }
-{
-    let kind = s[3 * i];
-    if kind == 4 {
-        return wide(s[3 * i + 1]) + 1;
-    }
-    if kind == 5 {
-        return wide(s[3 * i + 1]) + 1;
-    }
-    0
-}
-
-// A, the number of names that the terms count.
-pub fn count_names(s: &[u8]) -> usize
-    ensures { λ r. ⌜ r ≡ highest nameAbove (termsOf (now (s .entry))) ⌝ }
-{
-    let count = s.len() / 3;
-    let mut found = 0;
-    let mut i = 0;
-    while i < count {
-        found = larger(found, name_above(s, i));
-        i += 1;
-    }
-    found
-}
-
-fn count_term_roles(s: &[u8]) -> usize
-    ensures { λ r. ⌜ r ≡ highest roleAbove (termsOf (now (s .entry))) ⌝ }
-{
-    let count = s.len() / 3;
-    let mut found = 0;
-    let mut i = 0;
-    while i < count {
-        found = larger(found, role_above(s, i));
-        i += 1;
-    }
-    found
-}
-
-// One more than the highest byte of column `k` of records of four, or 0.
-fn count_column(s: &[u8], k: usize) -> usize
-    requires { ⌜ k < 4 ⌝ }
-    ensures { λ r. ⌜ r ≡ highest suc (column (now (s .entry)) k) ⌝ }
-{
-    let count = s.len() / 4;
-    let mut found = 0;
-    let mut i = 0;
-    while i < count {
-        found = larger(found, wide(s[4 * i + k]) + 1);
-        i += 1;
-    }
-    found
-}
-
-// R, the number of roles that terms and link claims count.
-pub fn count_roles(terms: &[u8], links: &[u8]) -> usize
-    ensures { λ r. ⌜ r ≡ max (highest roleAbove (termsOf (now (terms .entry)))) (highest linkRoles (linksOf (now (links .entry)))) ⌝ }
-{
-    larger(count_term_roles(terms), count_column(links, 0))
-}
-
-// I, the number of individuals that claims count.
-pub fn count_individuals(memberships: &[u8], links: &[u8]) -> usize
-    ensures { λ r. ⌜ r ≡ max (highest membershipIndividuals (membershipsOf (now (memberships .entry)))) (highest linkIndividuals (linksOf (now (links .entry)))) ⌝ }
-{
-    let linked = larger(count_column(links, 1), count_column(links, 2));
-    larger(count_column(memberships, 0), linked)
 }

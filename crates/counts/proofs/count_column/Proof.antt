@@ -1,0 +1,72 @@
+-- `counts::count_column` meets its contract. `found` is the highest of the records before `i`.
+-- Assumes nothing.
+use mathlib.Core.Path.{_≡_, sym, ap, ap₂, _∙_}
+use Prim.Native.Nat.{max, suc, ℕ, _≤_, _+_, _*_, _-_}
+use native.Mathlib.Numerals.{add-one}
+use native.Mathlib.Omega.{arith}
+use lib.ListN.{getD}
+use borrow.Author.Needs.{needs}
+use Rattle.chain.proofs.Lists.{highest-none, highest-table}
+use Rattle.chain.specs.Lists.{highest, table}
+use Rattle.sections.specs.Claims.{claimCount}
+use Rattle.counts.specs.Columns.{column}
+use Rattle.counts.proofs.count_column.Statement.{statement}
+use Rattle.counts.proofs.count_column.Tie as tie
+
+abbrev Inv-loop : tie.InvT-loop
+Inv-loop s k count found₀ i₀ found i = (i ≤ claimCount s) × (found ≡ highest suc (table (λ j. getD s (4 * j + k) 0) i))
+
+abbrev μ-loop : tie.MeasureT-loop
+μ-loop s k count found₀ i₀ found i = claimCount s - i
+
+loop-holds : tie.Need-loop-holds Inv-loop μ-loop
+loop-holds c = (omega arith, highest-none _ _)
+
+mul-wide : tie.Need-mul-wide Inv-loop μ-loop
+mul-wide c = search needs
+
+add-wide : tie.Need-add-wide Inv-loop μ-loop
+add-wide c = search needs
+
+shared-slice-read-wide : tie.Need-shared-slice-read-wide Inv-loop μ-loop
+shared-slice-read-wide c = search needs
+
+wide-requires : tie.Need-wide-requires Inv-loop μ-loop
+wide-requires c κs = search needs
+
+add-larger : tie.Need-add-larger Inv-loop μ-loop
+add-larger c = search needs
+
+larger-requires : tie.Need-larger-requires Inv-loop μ-loop
+larger-requires c κs = search needs
+
+add-i : tie.Need-add-i Inv-loop μ-loop
+add-i c = search needs
+
+loop-less : tie.Need-loop-less Inv-loop μ-loop
+loop-less c = search needs
+
+loop-again : tie.Need-loop-again Inv-loop μ-loop
+loop-again c = (omega arith, c .larger .ensures ∙ ap₂ max (c .before .before .before .before .loop .inv .1) (add-one _ ∙ ap suc (c .before .wide .ensures .0)) ∙ sym (highest-table suc _ (c .before .before .before .before .loop .i)))
+
+returns : tie.Need-returns Inv-loop μ-loop
+unfolding column
+returns c = c .before .loop .inv .1 ∙ ap (λ (n : ℕ). highest suc (table (λ j. getD (c .before .before .before .args .s .now) (4 * j + (c .before .before .before .args .k)) 0) n)) (omega arith)
+
+pub count-column-spec : {M : Type 1} → statement M
+count-column-spec =
+    tie.close
+    (tie.spec
+    Inv-loop
+    μ-loop
+    loop-holds
+    mul-wide
+    add-wide
+    shared-slice-read-wide
+    wide-requires
+    add-larger
+    larger-requires
+    add-i
+    loop-less
+    loop-again
+    returns)

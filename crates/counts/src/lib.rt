@@ -1,0 +1,142 @@
+// How many places and candidates, names, roles and individuals a book's sections have.
+ghost use mathlib.Core.Path.{_≡_};
+ghost use Prim.Native.Nat.{ℕ, suc, _<_, _≤_, max};
+ghost use Rattle.chain.specs.Decisions.{Tells};
+ghost use Rattle.chain.specs.Lists.{highest};
+ghost use Rattle.powers.specs.Bounded.{bounded};
+ghost use Rattle.semantics.specs.Interpretations.{graded};
+ghost use Rattle.semantics.specs.Books.{nameAbove, roleAbove, linkRoles, membershipIndividuals, linkIndividuals};
+ghost use Rattle.semantics.specs.Candidates.{place, IsPlace, placesBefore, candidates};
+ghost use Rattle.sections.specs.Terms.{termOf, termAt, termsOf, termCount, TermsRight};
+ghost use Rattle.sections.specs.Claims.{membershipsOf, linksOf};
+ghost use Rattle.counts.specs.Columns.{column};
+use powers::Power;
+use sections::wide;
+
+// ---- places and candidates
+
+fn is_place(kind: u8) -> bool
+    ensures { λ r. ⌜ ((a b : ℕ) → Tells r (IsPlace (place (termOf kind a b)))) ⌝ }
+{
+    if kind == 0 {
+        return true;
+    }
+    if kind == 4 {
+        return true;
+    }
+    kind == 5
+}
+
+// How many of the terms are places.
+pub fn count_places(s: &[u8]) -> usize
+    ensures { λ r. ⌜ r ≡ placesBefore (termsOf (now (s .entry))) (termCount (now (s .entry))) ⌝ }
+{
+    let count = s.len() / 3;
+    let mut found = 0;
+    let mut i = 0;
+    while i < count {
+        if is_place(s[3 * i]) {
+            found += 1;
+        }
+        i += 1;
+    }
+    found
+}
+
+// The number of candidates on `steps` steps, up to 16,384 (check 10).
+pub fn count_candidates(s: &[u8], steps: u8) -> Power
+    requires { ⌜ TermsRight (now s) ⌝ }
+    requires { ⌜ (1 ≤ steps) × (steps ≤ 8) ⌝ }
+    ensures { λ r. ⌜ r ≡ bounded (candidates (graded steps (termsOf (now (s .entry))))) ⌝ }
+{
+    powers::bounded_power(steps, count_places(s))
+}
+
+// ---- how many names, roles and individuals: one more than the highest, or 0
+
+fn larger(x: usize, y: usize) -> usize
+    ensures { λ r. ⌜ r ≡ max x y ⌝ }
+{
+    if x < y { y } else { x }
+}
+
+fn name_above(s: &[u8], i: usize) -> usize
+    requires { ⌜ i < termCount (now s) ⌝ }
+    ensures { λ r. ⌜ r ≡ nameAbove (termAt (now (s .entry)) i) ⌝ }
+{
+    if s[3 * i] == 0 {
+        return wide(s[3 * i + 1]) + 1;
+    }
+    0
+}
+
+fn role_above(s: &[u8], i: usize) -> usize
+    requires { ⌜ i < termCount (now s) ⌝ }
+    ensures { λ r. ⌜ r ≡ roleAbove (termAt (now (s .entry)) i) ⌝ }
+{
+    let kind = s[3 * i];
+    if kind == 4 {
+        return wide(s[3 * i + 1]) + 1;
+    }
+    if kind == 5 {
+        return wide(s[3 * i + 1]) + 1;
+    }
+    0
+}
+
+// A, the number of names that the terms count.
+pub fn count_names(s: &[u8]) -> usize
+    ensures { λ r. ⌜ r ≡ highest nameAbove (termsOf (now (s .entry))) ⌝ }
+{
+    let count = s.len() / 3;
+    let mut found = 0;
+    let mut i = 0;
+    while i < count {
+        found = larger(found, name_above(s, i));
+        i += 1;
+    }
+    found
+}
+
+fn count_term_roles(s: &[u8]) -> usize
+    ensures { λ r. ⌜ r ≡ highest roleAbove (termsOf (now (s .entry))) ⌝ }
+{
+    let count = s.len() / 3;
+    let mut found = 0;
+    let mut i = 0;
+    while i < count {
+        found = larger(found, role_above(s, i));
+        i += 1;
+    }
+    found
+}
+
+// One more than the highest byte of column `k` of records of four, or 0.
+fn count_column(s: &[u8], k: usize) -> usize
+    requires { ⌜ k < 4 ⌝ }
+    ensures { λ r. ⌜ r ≡ highest suc (column (now (s .entry)) k) ⌝ }
+{
+    let count = s.len() / 4;
+    let mut found = 0;
+    let mut i = 0;
+    while i < count {
+        found = larger(found, wide(s[4 * i + k]) + 1);
+        i += 1;
+    }
+    found
+}
+
+// R, the number of roles that terms and link claims count.
+pub fn count_roles(terms: &[u8], links: &[u8]) -> usize
+    ensures { λ r. ⌜ r ≡ max (highest roleAbove (termsOf (now (terms .entry)))) (highest linkRoles (linksOf (now (links .entry)))) ⌝ }
+{
+    larger(count_term_roles(terms), count_column(links, 0))
+}
+
+// I, the number of individuals that claims count.
+pub fn count_individuals(memberships: &[u8], links: &[u8]) -> usize
+    ensures { λ r. ⌜ r ≡ max (highest membershipIndividuals (membershipsOf (now (memberships .entry)))) (highest linkIndividuals (linksOf (now (links .entry)))) ⌝ }
+{
+    let linked = larger(count_column(links, 1), count_column(links, 2));
+    larger(count_column(memberships, 0), linked)
+}
