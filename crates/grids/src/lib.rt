@@ -1,0 +1,1 @@
+// The grades of all terms at all elements of a sheet.
