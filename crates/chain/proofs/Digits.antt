@@ -1,8 +1,8 @@
 -- Laws of digits: each is below the base, any row of digits is some number's, and a number is known by its digits.
 -- Assumes nothing.
-use mathlib.Core.Path.{_≡_, sym, ap₂, _∙_}
-use Prim.Native.Nat.{ℕ, zero, suc, _+_, _*_, _/_, _^_, _<_}
-use native.Mathlib.Nat.{not-suc-le-zero, pow-zero, pow-suc, mod-lt, div-add-mod', mul-add-mod-self-right, mod-eq-of-lt, mul-add-div-right, div-eq-of-lt, div-lt-iff-lt-mul, add-zero, mul-le-mul-right}
+use mathlib.Core.Path.{_≡_, sym, ap, ap₂, _∙_}
+use Prim.Native.Nat.{ℕ, zero, suc, _+_, _*_, _/_, _%_, _^_, _<_}
+use native.Mathlib.Nat.{not-suc-le-zero, pow-zero, pow-suc, pow-succ', div-one, div-div-eq-div-mul, mod-lt, div-add-mod', mul-add-mod-self-right, mod-eq-of-lt, mul-add-div-right, div-eq-of-lt, div-lt-iff-lt-mul, add-zero, mul-le-mul-right}
 use native.Mathlib.Omega.{arith}
 use Rattle.chain.specs.Digits.{digit, encode}
 
@@ -39,3 +39,17 @@ module _ (B : ℕ) (pos : 0 < B) where
     where
       part : (x : ℕ) → x < B ^ suc k → x / B < B ^ k
       part x h = div-lt-iff-lt-mul pos .1 (rw (← pow-suc B k) h)
+
+-- ---- taking digits off: c / B ^ i is c without its i lowest digits
+
+pub digit-power : (B i c : ℕ) → digit B i c ≡ c / B ^ i % B
+unfolding digit
+digit-power B zero c = rw (pow-zero B, div-one c)
+digit-power B (suc i) c =
+    digit-power B i (c / B) ∙ ap (λ (x : ℕ). x % B) (div-div-eq-div-mul c B (B ^ i) ∙ ap (λ (x : ℕ). c / x) (sym (pow-succ' B i)))
+
+pub off-zero : (B c : ℕ) → c / B ^ 0 ≡ c
+off-zero B c = rw (pow-zero B) (div-one c)
+
+pub off-suc : (B i c : ℕ) → c / B ^ i / B ≡ c / B ^ suc i
+off-suc B i c = div-div-eq-div-mul c (B ^ i) B ∙ ap (λ (x : ℕ). c / x) (sym (pow-suc B i))

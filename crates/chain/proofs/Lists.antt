@@ -2,13 +2,14 @@
 -- Assumes nothing.
 use mathlib.Core.Path.{_≡_, refl, sym, ap, ap₂, subst}
 use mathlib.Core.Logic.{_⊎_, inl, inr, ⊎-elim, ite, _↔_}
-use mathlib.Core.List.{List, [], _∷_}
+use mathlib.Core.List.{List, [], _∷_, _++_}
 use Prim.Native.Nat.{ℕ, zero, suc, _+_, _≤_, _<_, max}
 use native.Mathlib.Nat.{not-suc-le-zero}
 use native.Mathlib.Decide.{ℕ-discrete}
 use native.Mathlib.Numerals.{add-one}
 use native.Mathlib.Omega.{arith}
-use lib.ListN.{length, getD}
+use lib.ListN.{length, getD, take, drop, set, length-append, length-drop}
+use lib.Seq.{append-snoc, drop-cons, set-at, take-at}
 use Rattle.chain.specs.Search.{First, first}
 use Rattle.chain.specs.Lists.{Mem, Each, highest, table, keep, from, Ascending, index}
 use Rattle.chain.proofs.Search.{below-cases}
@@ -71,6 +72,36 @@ module _ {A : Type 0} where
   pub highest-none : (f : A → ℕ) (g : ℕ → A) → 0 ≡ highest f (table g 0)
   unfolding highest table
   highest-none f g = refl
+
+  -- what holds of the default too holds at every index
+  pub every-table : (P : A → Type 0) (f : ℕ → A) (n : ℕ) (d : A) → P d → ((i : ℕ) → i < n → P (f i)) → (i : ℕ) → P (getD (table f n) i d)
+  unfolding table
+  every-table P f zero d z h i = z
+  every-table P f (suc n) d z h zero = h zero (omega arith)
+  every-table P f (suc n) d z h (suc i) = every-table P (λ j. f (suc j)) n d z (λ j l. h (suc j) (omega arith)) i
+
+  -- one entry more, at the end
+  pub table-snoc : (f : ℕ → A) (n : ℕ) → table f (suc n) ≡ table f n ++ (f n ∷ [])
+  unfolding table
+  table-snoc f zero = refl
+  table-snoc f (suc n) = ap {B = List A} (λ xs. f zero ∷ xs) (table-snoc (λ i. f (suc i)) n)
+
+  -- a list whose first n entries are overwritten by a table's, as a loop fills it: none yet, its length, its front, and one entry more
+  pub zero-filled : (f : ℕ → A) (xs : List A) → xs ≡ table f 0 ++ drop 0 xs
+  unfolding table
+  zero-filled f xs = refl
+
+  module _ (f : ℕ → A) (xs : List A) (n : ℕ) where
+    pub length-filled : n ≤ length xs → length (table f n ++ drop n xs) ≡ length xs
+    length-filled h = omega (arith, length-append (table f n) (drop n xs), length-table f n, length-drop n xs)
+
+    pub take-filled : take n (table f n ++ drop n xs) ≡ table f n
+    take-filled = take-at (table f n) (drop n xs) n (length-table f n)
+
+    pub set-filled : n < length xs → set (table f n ++ drop n xs) n (f n) ≡ table f (n + 1) ++ drop (n + 1) xs
+    set-filled h =
+        rw (add-one n, drop-cons xs n (f n) h, set-at (table f n) (getD xs n (f n)) (drop (suc n) xs) (f n) n (length-table f n), table-snoc f n)
+        (sym (append-snoc (table f n) (f n) (drop (suc n) xs)))
 
   -- one entry more, at the end, as a loop meets it
   pub highest-table : (f : A → ℕ) (g : ℕ → A) (n : ℕ) → highest f (table g (n + 1)) ≡ max (highest f (table g n)) (f (g n))

@@ -2,7 +2,7 @@
 -- Assumes nothing.
 use mathlib.Core.Path.{_≡_, refl, sym, ap, subst}
 use mathlib.Core.Logic.{_⊎_, inl, inr, ⊎-elim, ite, if-neg, _↔_}
-use Prim.Native.Nat.{ℕ, zero, suc, _≤_, _<_}
+use Prim.Native.Nat.{ℕ, zero, suc, _-_, _≤_, _<_}
 use native.Mathlib.Nat.{not-suc-le-zero, eq-or-lt-of-le}
 use native.Mathlib.Omega.{arith}
 use borrow.Author.Count.{below-none, below-more}
@@ -49,6 +49,15 @@ module _ {P : ℕ → Type 0} (p : (i : ℕ) → Dec (P i)) where
       go : (d : Dec (P (suc n))) → (r ≤ n → P r → r ≤ greatest p n) → r ≤ ite d (suc n) (greatest p n)
       go (yes _) f = h
       go (no m) f = ⊎-elim (λ e. absurd (m (subst P e q))) (λ l. f (omega arith) q) (below-cases (suc n) r (omega arith))
+
+  -- as a search downward finds it
+  pub greatest-yes : (n : ℕ) → P n → greatest p n ≡ n
+  greatest-yes n q = omega (arith, greatest-le n, greatest-most n n (omega arith) q)
+
+  pub greatest-no : (n : ℕ) → 0 < n → ¬ P n → greatest p n ≡ greatest p (n - 1)
+  unfolding greatest
+  greatest-no zero h q = absurd (not-suc-le-zero h)
+  greatest-no (suc n) h q = let e : suc n - 1 ≡ n = omega arith in rw e (if-neg (p (suc n)) q (suc n) (greatest p n))
 
   -- ---- ranks
 

@@ -6,16 +6,14 @@ use Prim.Native.Nat.{ℕ, suc, _+_, _*_, _^_, _<_, max}
 use native.Mathlib.Nat.{add-zero}
 use native.Mathlib.Numerals.{add-one}
 use lib.ListN.{getD}
-use Rattle.chain.specs.Search.{rank}
 use Rattle.chain.specs.Lists.{highest}
-use Rattle.chain.proofs.Search.{rank-yes, rank-no}
 use Rattle.chain.proofs.Lists.{highest-same, highest-max}
-use Rattle.semantics.specs.Terms.{Term, term}
+use Rattle.semantics.specs.Terms.{Term}
 use Rattle.semantics.specs.Interpretations.{graded}
 use Rattle.semantics.specs.Books.{nameAbove, roleAbove, linkRoles, membershipIndividuals, linkIndividuals}
-use Rattle.semantics.specs.Candidates.{place, IsPlace, isPlace?, placesBefore, candidates}
-use Rattle.chain.proofs.Connectives.{zadeh-lawful}
-use Rattle.semantics.proofs.Candidates.{candidates-count}
+use Rattle.semantics.specs.Candidates.{place, IsPlace, placesBefore, candidates}
+use Rattle.semantics.proofs.Interpretations.{graded-well-formed}
+use Rattle.semantics.proofs.Candidates.{placesBefore-place, placesBefore-other, candidates-count}
 use Rattle.sections.specs.Terms.{termOf, termCount, termAt, termsOf, TermsRight}
 use Rattle.counts.specs.Columns.{column}
 use Rattle.sections.specs.Claims.{linksOf, membershipsOf, linkAt, membershipAt, claimCount}
@@ -28,14 +26,6 @@ module _ {X : Type 0} (f : Term → X) (kind a b : ℕ) where
   at-kind k e = ap (λ (z : ℕ). f (termOf z a b)) e
 
 module _ (kind a b : ℕ) where
-  pub place-yes : (k : ℕ) → kind ≡ k → IsPlace (place (termOf k a b)) → IsPlace (place (termOf kind a b))
-  place-yes k e h = subst (λ (z : ℕ). IsPlace (place (termOf z a b))) (sym e) h
-
-  pub place-no : ¬ (kind ≡ 0) → ¬ (kind ≡ 4) → ¬ (kind ≡ 5) → ¬ IsPlace (place (termOf kind a b))
-  place-no n0 n4 n5 =
-      by-kind (λ k t. k ≡ kind → ¬ IsPlace (place t)) a b (λ e _. n0 (sym e)) (λ e z. z) (λ e z. z) (λ e z. z) (λ e _. n4 (sym e)) (λ e _. n5 (sym e))
-      (λ e z. z) (λ e z. z) (λ k h e z. z) kind refl
-
   pub no-name : ¬ (kind ≡ 0) → 0 ≡ nameAbove (termOf kind a b)
   no-name n0 =
       by-kind (λ k t. k ≡ kind → 0 ≡ nameAbove t) a b (λ e. absurd (n0 (sym e))) (λ e. refl) (λ e. refl) (λ e. refl) (λ e. refl) (λ e. refl) (λ e. refl) (λ e. refl)
@@ -49,27 +39,19 @@ module _ (kind a b : ℕ) where
 -- ---- places, one term more
 
 module _ (s : List ℕ) where
-  pub places-none : 0 ≡ placesBefore (termsOf s) 0
-  unfolding placesBefore rank
-  places-none = refl
-
   module _ (i : ℕ) (h : i < termCount s) where
     pub places-more : IsPlace (place (termAt s i)) → placesBefore (termsOf s) i + 1 ≡ placesBefore (termsOf s) (i + 1)
-    unfolding placesBefore
     places-more p =
-        rw (add-one i, add-one)
-        (sym (rank-yes (λ j. isPlace? (place (term (termsOf s) j))) i (subst (λ (t : Term). IsPlace (place t)) (sym (term-at s i h)) p)))
+        rw (add-one i, add-one) (sym (placesBefore-place (termsOf s) i (subst (λ (t : Term). IsPlace (place t)) (sym (term-at s i h)) p)))
 
     pub places-same : ¬ IsPlace (place (termAt s i)) → placesBefore (termsOf s) i ≡ placesBefore (termsOf s) (i + 1)
-    unfolding placesBefore
     places-same n =
-        rw (add-one i)
-        (sym (rank-no (λ j. isPlace? (place (term (termsOf s) j))) i (λ p. n (subst (λ (t : Term). IsPlace (place t)) (term-at s i h) p))))
+        rw (add-one i) (sym (placesBefore-other (termsOf s) i (λ p. n (subst (λ (t : Term). IsPlace (place t)) (term-at s i h) p))))
 
   pub candidates-of : TermsRight s → (N : ℕ) → (N + 1) ^ placesBefore (termsOf s) (termCount s) ≡ candidates (graded N (termsOf s))
   candidates-of ok N =
       ap (λ (n : ℕ). (N + 1) ^ placesBefore (termsOf s) n) (sym (length-terms s))
-      ∙ sym (candidates-count (graded N (termsOf s)) (record { lawful = zadeh-lawful N; ordered = terms-ordered s ok }) (terms-apart s ok))
+      ∙ sym (candidates-count (graded N (termsOf s)) (graded-well-formed N (termsOf s) (terms-ordered s ok)) (terms-apart s ok))
 
   -- ---- what the columns of a section say
 

@@ -1,31 +1,19 @@
 // How many places and candidates, names, roles and individuals a book's sections have.
 ghost use mathlib.Core.Path.{_≡_};
 ghost use Prim.Native.Nat.{ℕ, suc, _<_, _≤_, max};
-ghost use Rattle.chain.specs.Decisions.{Tells};
 ghost use Rattle.chain.specs.Lists.{highest};
 ghost use Rattle.powers.specs.Bounded.{bounded};
 ghost use Rattle.semantics.specs.Interpretations.{graded};
 ghost use Rattle.semantics.specs.Books.{nameAbove, roleAbove, linkRoles, membershipIndividuals, linkIndividuals};
-ghost use Rattle.semantics.specs.Candidates.{place, IsPlace, placesBefore, candidates};
-ghost use Rattle.sections.specs.Terms.{termOf, termAt, termsOf, termCount, TermsRight};
+ghost use Rattle.semantics.specs.Candidates.{placesBefore, candidates};
+ghost use Rattle.sections.specs.Terms.{termAt, termsOf, termCount, TermsRight};
 ghost use Rattle.sections.specs.Claims.{membershipsOf, linksOf};
 ghost use Rattle.counts.specs.Columns.{column};
 use powers::Power;
+use sections::is_place;
 use sections::wide;
 
 // ---- places and candidates
-
-fn is_place(kind: u8) -> bool
-    ensures { λ r. ⌜ ((a b : ℕ) → Tells r (IsPlace (place (termOf kind a b)))) ⌝ }
-{
-    if kind == 0 {
-        return true;
-    }
-    if kind == 4 {
-        return true;
-    }
-    kind == 5
-}
 
 // How many of the terms are places.
 pub fn count_places(s: &[u8]) -> usize
@@ -35,7 +23,7 @@ pub fn count_places(s: &[u8]) -> usize
     let mut found = 0;
     let mut i = 0;
     while i < count {
-        if is_place(s[3 * i]) {
+        if is_place(s, i) {
             found += 1;
         }
         i += 1;

@@ -10,8 +10,8 @@ use Rattle.chain.specs.Decisions.{Tells}
 use Rattle.chain.proofs.Decisions.{tells-map}
 use Rattle.chain.proofs.Lists.{length-table, getD-table}
 use Rattle.semantics.specs.Terms.{Term, name, not, and, or, some, all, top, bottom, term, Children, Ordered}
-use Rattle.semantics.specs.Candidates.{NamesApart}
-use Rattle.sections.specs.Terms.{termOf, kindByte, aByte, InRange, Described, kindAt, aAt, termCount, termAt, termsOf, TermsRight}
+use Rattle.semantics.specs.Candidates.{place, IsPlace, NamesApart}
+use Rattle.sections.specs.Terms.{termOf, kindByte, aByte, InRange, Described, kindAt, aAt, bAt, termCount, termAt, termsOf, TermsRight}
 
 kindByte-lt : (t : Term) → kindByte t < 8
 kindByte-lt (name a) = omega arith
@@ -77,6 +77,24 @@ pub described-other : (i kind a b : ℕ) → ¬ (kind ≡ 0) → ¬ (kind ≡ 1)
 described-other i kind a b n0 n1 n2 n3 n4 n5 n6 n7 d =
     by-kind (λ k t. k ≡ kind → k < 8 → ⊥) a b (λ e _. n0 (sym e)) (λ e _. n1 (sym e)) (λ e _. n2 (sym e)) (λ e _. n3 (sym e)) (λ e _. n4 (sym e))
     (λ e _. n5 (sym e)) (λ e _. n6 (sym e)) (λ e _. n7 (sym e)) (λ k h e l. omega arith) kind refl (described-kind i kind a b d)
+
+-- ---- a term of the section by its kind
+
+module _ (s : List ℕ) (i : ℕ) where
+  -- the term, where its kind is known
+  pub term-kind : (k : ℕ) → kindAt s i ≡ k → termAt s i ≡ termOf k (aAt s i) (bAt s i)
+  term-kind k e = ap (λ (z : ℕ). termOf z (aAt s i) (bAt s i)) e
+
+  pub range-kind : TermsRight s → i < termCount s → (k : ℕ) → kindAt s i ≡ k → InRange i (termOf k (aAt s i) (bAt s i))
+  range-kind ok h k e = subst (InRange i) (term-kind k e) (ok i h .0 .0)
+
+  pub place-kind : (k : ℕ) → kindAt s i ≡ k → IsPlace (place (termOf k (aAt s i) (bAt s i))) → IsPlace (place (termAt s i))
+  place-kind k e h = subst (λ (t : Term). IsPlace (place t)) (sym (term-kind k e)) h
+
+  pub other-kind : ¬ (kindAt s i ≡ 0) → ¬ (kindAt s i ≡ 4) → ¬ (kindAt s i ≡ 5) → ¬ IsPlace (place (termAt s i))
+  other-kind =
+      by-kind (λ k t. ¬ (k ≡ 0) → ¬ (k ≡ 4) → ¬ (k ≡ 5) → ¬ IsPlace (place t)) (aAt s i) (bAt s i) (λ n _ _ _. n refl) (λ _ _ _ z. z)
+      (λ _ _ _ z. z) (λ _ _ _ z. z) (λ _ n _ _. n refl) (λ _ _ n _. n refl) (λ _ _ _ z. z) (λ _ _ _ z. z) (λ _ _ _ _ _ z. z) (kindAt s i)
 
 -- ---- the section's terms
 

@@ -3,12 +3,12 @@
 use mathlib.Core.Path.{_≡_, refl, sym, ap, subst, _∙_}
 use mathlib.Core.Logic.{inl, inr, ⊎-elim, _↔_}
 use mathlib.Core.List.{List}
-use Prim.Native.Nat.{ℕ, _^_, _≤_, _<_}
+use Prim.Native.Nat.{ℕ, suc, _^_, _≤_, _<_}
 use native.Mathlib.Omega.{arith}
 use lib.ListN.{length}
 use Rattle.chain.specs.Search.{First, rank}
 use Rattle.chain.specs.Digits.{digit}
-use Rattle.chain.proofs.Search.{strong, rank-lt, rank-onto, rank-same, select-rank, select-lt}
+use Rattle.chain.proofs.Search.{strong, rank-yes, rank-no, rank-lt, rank-onto, rank-same, select-rank, select-lt}
 use Rattle.chain.proofs.Digits.{digit-lt, encode-lt, digit-encode, digits-inj}
 use Rattle.semantics.specs.Terms.{Term, name, not, and, or, some, all, top, bottom, term, Children, local}
 use Rattle.semantics.specs.Interpretations.{Grading, WellFormed, Interpretation, OnChain, gradeAt}
@@ -52,6 +52,20 @@ module _ (ts : List Term) where
       go (all r c) e o = refl
       go top e o = absurd o
       go bottom e o = absurd o
+
+  -- ---- the places, counted one term after the other
+
+  pub placesBefore-zero : placesBefore ts 0 ≡ 0
+  unfolding placesBefore rank
+  placesBefore-zero = refl
+
+  pub placesBefore-place : (i : ℕ) → IsPlace (place (term ts i)) → placesBefore ts (suc i) ≡ suc (placesBefore ts i)
+  unfolding placesBefore
+  placesBefore-place = rank-yes (λ j. isPlace? (place (term ts j)))
+
+  pub placesBefore-other : (i : ℕ) → ¬ IsPlace (place (term ts i)) → placesBefore ts (suc i) ≡ placesBefore ts i
+  unfolding placesBefore
+  placesBefore-other = rank-no (λ j. isPlace? (place (term ts j)))
 
   -- ---- where no name stands twice: a place is a term of kind 0, 4 or 5, and its number is how many stand before it
 

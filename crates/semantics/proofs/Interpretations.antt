@@ -1,16 +1,21 @@
 -- Laws of the grade at an element: the table of document 01 kind by kind, that grades are on the chain, and that only they obey the table.
 -- Assumes nothing.
 use mathlib.Core.Path.{_≡_, refl, sym, ap, ap₂, _∙_}
+use mathlib.Core.List.{List}
 use Prim.Native.Nat.{ℕ, _≤_, _<_}
 use native.Mathlib.Omega.{arith}
 use lib.ListN.{length}
 use Rattle.chain.specs.Connectives.{Quantifier, existential, universal, through, over}
-use Rattle.chain.proofs.Connectives.{over-le, over-same}
+use Rattle.chain.proofs.Connectives.{zadeh-lawful, over-le, over-same}
 use Rattle.chain.proofs.Search.{strong}
-use Rattle.semantics.specs.Terms.{Term, name, not, and, or, some, all, top, bottom, term, Children, local}
+use Rattle.semantics.specs.Terms.{Term, name, not, and, or, some, all, top, bottom, term, Children, Ordered, local}
 use Rattle.semantics.specs.Quantified.{quantified}
-use Rattle.semantics.specs.Interpretations.{Grading, WellFormed, Interpretation, OnChain, atElements, gradeAt}
+use Rattle.semantics.specs.Interpretations.{Grading, graded, WellFormed, Interpretation, OnChain, atElements, gradeAt}
 use Rattle.semantics.proofs.Terms.{value-local}
+
+-- with the base connectives, ordered terms are all that the theory asks
+pub graded-well-formed : (N : ℕ) (ts : List Term) → Ordered ts → WellFormed (graded N ts)
+graded-well-formed N ts o = record { lawful = zadeh-lawful N; ordered = o }
 
 -- what a quantified term with role r and child x takes at e from element f
 abbrev pub taken : Grading → Interpretation → Quantifier → (r x e f : ℕ) → ℕ

@@ -1,13 +1,14 @@
 -- `counts::count_places` meets its contract. `found` is the number of places before term `i`.
 -- Assumes nothing.
 use mathlib.Core.Logic.{⊎-elim}
-use mathlib.Core.Path.{_≡_, ap, _∙_}
+use mathlib.Core.Path.{_≡_, sym, ap, _∙_}
 use Prim.Native.Nat.{ℕ, _≤_, _+_, _-_}
 use native.Mathlib.Omega.{arith}
 use borrow.Author.Needs.{needs}
 use Rattle.semantics.specs.Candidates.{placesBefore}
-use Rattle.sections.specs.Terms.{termCount, termsOf, aAt, bAt}
-use Rattle.counts.proofs.Counts.{places-none, places-more, places-same}
+use Rattle.semantics.proofs.Candidates.{placesBefore-zero}
+use Rattle.sections.specs.Terms.{termCount, termsOf}
+use Rattle.counts.proofs.Counts.{places-more, places-same}
 use Rattle.counts.proofs.count_places.Statement.{statement}
 use Rattle.counts.proofs.count_places.Tie as tie
 
@@ -18,13 +19,7 @@ abbrev μ-loop : tie.MeasureT-loop
 μ-loop s count found₀ i₀ found i = termCount s - i
 
 loop-holds : tie.Need-loop-holds Inv-loop μ-loop
-loop-holds c = (omega arith, places-none _, omega arith)
-
-mul-is-place : tie.Need-mul-is-place Inv-loop μ-loop
-mul-is-place c = search needs
-
-shared-slice-read-is-place : tie.Need-shared-slice-read-is-place Inv-loop μ-loop
-shared-slice-read-is-place c = search needs
+loop-holds c = (omega arith, sym (placesBefore-zero _), omega arith)
 
 is-place-requires : tie.Need-is-place-requires Inv-loop μ-loop
 is-place-requires c κs = search needs
@@ -40,9 +35,9 @@ loop-less c = search needs
 
 loop-again : tie.Need-loop-again Inv-loop μ-loop
 loop-again c =
-    let s = c .before .before .before .before .before .before .args .s .now in
-    let l = c .before .before .before .before .loop in
-    let told = c .before .is-place .ensures (aAt s (l .i)) (bAt s (l .i)) in
+    let s = c .before .before .before .before .before .args .s .now in
+    let l = c .before .before .before .loop in
+    let told = c .before .is-place .ensures in
     ⊎-elim
     (λ w. (omega arith, w .1 ∙ ap (λ (n : ℕ). n + 1) (l .inv .1) ∙ places-more s (l .i) (omega arith) (told .0 (w .0 .taken)), omega arith))
     (λ w. (omega arith, w .1 ∙ l .inv .1 ∙ places-same s (l .i) (omega arith) (told .1 (w .0 .left)), omega arith))
@@ -53,16 +48,4 @@ returns c = c .before .loop .inv .1 ∙ ap (placesBefore (termsOf (c .before .be
 
 pub count-places-spec : {M : Type 1} → statement M
 count-places-spec =
-    tie.close
-    (tie.spec
-    Inv-loop
-    μ-loop
-    loop-holds
-    mul-is-place
-    shared-slice-read-is-place
-    is-place-requires
-    add-found
-    add-i
-    loop-less
-    loop-again
-    returns)
+    tie.close (tie.spec Inv-loop μ-loop loop-holds is-place-requires add-found add-i loop-less loop-again returns)

@@ -1,0 +1,52 @@
+-- `grades::link_of` meets its contract. The two rows have the candidates' grades at their fronts.
+-- Assumes nothing.
+use mathlib.Core.Path.{_∙_}
+use borrow.Author.Needs.{needs}
+use Rattle.semantics.specs.Interpretations.{graded}
+use Rattle.sections.specs.Terms.{termsOf}
+use Rattle.sections.proofs.Terms.{terms-ordered}
+use Rattle.grades.proofs.Rows.{front-grades, linkOfRows-link}
+use Rattle.grades.proofs.link_of.Statement.{statement}
+use Rattle.grades.proofs.link_of.Tie as tie
+
+slice-aggregate-fill-row : tie.Need-slice-aggregate-fill-row
+slice-aggregate-fill-row c = search needs
+
+fill-row-requires : tie.Need-fill-row-requires
+fill-row-requires c κs = search needs
+
+slice-aggregate-fill-row-2 : tie.Need-slice-aggregate-fill-row-2
+slice-aggregate-fill-row-2 c = search needs
+
+fill-row-requires-2 : tie.Need-fill-row-requires-2
+fill-row-requires-2 c κs = search needs
+
+slice-aggregate-link-of-rows : tie.Need-slice-aggregate-link-of-rows
+slice-aggregate-link-of-rows c = search needs
+
+slice-aggregate-link-of-rows-2 : tie.Need-slice-aggregate-link-of-rows-2
+slice-aggregate-link-of-rows-2 c = search needs
+
+link-of-rows-requires : tie.Need-link-of-rows-requires
+link-of-rows-requires c κs = search needs
+
+returns : tie.Need-returns
+returns c =
+    let s = c .before .before .before .before .before .before .before .before .before .before in
+    let G = graded (s .args .steps) (termsOf (s .args .terms .now)) in
+    c .link-of-rows .ensures
+    ∙ linkOfRows-link (s .args .steps) (termsOf (s .args .terms .now)) (terms-ordered (s .args .terms .now) (s .pre .0)) (s .args .role) (s .args .c) (s .args .d) _ _
+    (λ i h. rw (c .before .before .before .before .before .before .before .fill-row .ensures) (front-grades G (s .args .c) _ i h)) (λ i h. rw (c .before .before .before .before .fill-row2 .ensures) (front-grades G (s .args .d) _ i h))
+
+pub link-of-spec : {M : Type 1} → statement M
+link-of-spec =
+    tie.close
+    (tie.spec
+    slice-aggregate-fill-row
+    fill-row-requires
+    slice-aggregate-fill-row-2
+    fill-row-requires-2
+    slice-aggregate-link-of-rows
+    slice-aggregate-link-of-rows-2
+    link-of-rows-requires
+    returns)
