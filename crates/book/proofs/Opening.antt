@@ -15,7 +15,7 @@ use Rattle.sections.specs.Rules.{RulesRight}
 use Rattle.sections.specs.Claims.{MembershipsRight, LinksRight}
 use Rattle.book.specs.Layout.{steps, sectionsOf, LengthRight, EditionRight, StepsRight, CountsRight, LaidOut, termBytes, ruleBytes, membershipBytes, linkBytes, termsIn}
 use Rattle.book.specs.Reading.{bookOf}
-use Rattle.book.specs.Opening.{bodyQuestions, bookQuestions, Accepts, Right, opened, openedOf, fewCandidates?, counted, countedOf}
+use Rattle.book.specs.Opening.{bodyQuestions, bookQuestions, Accepts, Right, opened, openedOf, fewCandidates?, candidateQuestions, counted, countedOf}
 use Rattle.book.specs.declared.Sections.{Sections}
 use Rattle.book.specs.declared.Opened.the-variants.{Refused, Accepted}
 use Rattle.book.specs.declared.Counted.the-variants.{Refused as Declined, Candidates}
@@ -177,3 +177,23 @@ module _ (b : List ℕ) (s : Sections) (ok : Right b s) where
 pub counted-refused : (b : List ℕ) (n : ℕ) → openedOf b ≡ Refused n → countedOf b ≡ Declined n
 unfolding countedOf
 counted-refused b n e = ap (counted (candidates (bookOf b .grading))) (first-some-append (bookQuestions b) _ n (opened-refused b n e))
+
+-- what the count says of the checks 1 to 10
+
+pub counted-candidates : (b : List ℕ) (k : ℕ) → countedOf b ≡ Candidates k → (firstNo (candidateQuestions b) ≡ none) × (candidates (bookOf b .grading) ≡ k)
+unfolding countedOf
+counted-candidates b k = go (firstNo (candidateQuestions b)) refl
+  where
+    go : (o : Option ℕ) → firstNo (candidateQuestions b) ≡ o → counted (candidates (bookOf b .grading)) o ≡ Candidates k
+        → (firstNo (candidateQuestions b) ≡ none) × (candidates (bookOf b .grading) ≡ k)
+    go none e h = (e, cc)
+    go (some n) e h = let z : _≡_ {A = ℕ} 0 1 = cc in absurd (omega arith)
+
+pub counted-declined : (b : List ℕ) (n : ℕ) → countedOf b ≡ Declined n → firstNo (candidateQuestions b) ≡ some n
+unfolding countedOf
+counted-declined b n = go (firstNo (candidateQuestions b)) refl
+  where
+    go : (o : Option ℕ) → firstNo (candidateQuestions b) ≡ o → counted (candidates (bookOf b .grading)) o ≡ Declined n
+        → firstNo (candidateQuestions b) ≡ some n
+    go none e h = let z : _≡_ {A = ℕ} 0 1 = cc in absurd (omega arith)
+    go (some m) e h = let f : m ≡ n = cc in e ∙ ap {B = Option ℕ} some f

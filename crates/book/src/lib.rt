@@ -163,8 +163,8 @@ pub fn open(b: &[u8]) -> Opened
     open_bodies(b, s)
 }
 
-// The number of candidates of the book whose sections are `s`, or the refusal 10.
-fn count_in(b: &[u8], s: Sections) -> Counted
+// The number of candidates of an accepted book whose sections are `s`, or the refusal 10.
+pub fn count_in(b: &[u8], s: Sections) -> Counted
     requires { ⌜ Right (now b) s ⌝ }
     ensures { λ r. ⌜ r ≡ countedOf (now (b .entry)) ⌝ }
 {

@@ -1,0 +1,27 @@
+-- Laws of the two questions: which checks that were made give which answer; and the book that was opened is the one asked about.
+-- Assumes nothing.
+use mathlib.Core.Path.{_≡_, ap, _∙_}
+use mathlib.Core.Option.{none, some}
+use mathlib.Core.List.{List, [], _∷_, _++_}
+use Prim.Native.Nat.{ℕ}
+use Rattle.chain.specs.Questions.{Question, ask, firstNo}
+use Rattle.chain.proofs.Questions.{first-empty, first-yes, first-no, first-some-append, first-none-append}
+use Rattle.checker.specs.Asking.{answered}
+use Rattle.checker.specs.declared.Answer.the-variants.{Refused, Grade}
+
+-- two questions more after those on the book
+module _ (g : ℕ) (qs : List Question) {A B : Type 0} (m n : ℕ) (d : Dec A) (e : Dec B) where
+  abbrev asked : List Question
+  asked = qs ++ (ask m d ∷ ask n e ∷ [])
+
+  pub answered-before : (k : ℕ) → firstNo qs ≡ some k → answered g (firstNo asked) ≡ Refused k
+  answered-before k h = ap (answered g) (first-some-append qs _ k h)
+
+  pub answered-first : firstNo qs ≡ none → ¬ A → answered g (firstNo asked) ≡ Refused m
+  answered-first h a = ap (answered g) (first-none-append qs _ h ∙ first-no m d _ a)
+
+  pub answered-second : firstNo qs ≡ none → A → ¬ B → answered g (firstNo asked) ≡ Refused n
+  answered-second h a b = ap (answered g) (first-none-append qs _ h ∙ first-yes m d _ a ∙ first-no n e _ b)
+
+  pub answered-both : firstNo qs ≡ none → A → B → answered g (firstNo asked) ≡ Grade g
+  answered-both h a b = ap (answered g) (first-none-append qs _ h ∙ first-yes m d _ a ∙ first-yes n e _ b ∙ first-empty)

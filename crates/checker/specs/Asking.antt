@@ -1,0 +1,46 @@
+-- The questions "grade of a term in a candidate" and "link of two candidates": after the checks 1 to 10, 20 and then 21.
+-- Assumes nothing.
+use mathlib.Core.Option.{Option, none, some}
+use mathlib.Core.List.{List, [], _∷_, _++_}
+use Prim.Native.Nat.{ℕ}
+use native.Mathlib.Decide.{decLt}
+use lib.ListN.{length}
+use Rattle.chain.specs.Decisions.{dec-and}
+use Rattle.chain.specs.Questions.{Question, ask, firstNo}
+use Rattle.semantics.specs.Candidates.{candidates, gradeIn}
+use Rattle.semantics.specs.Links.{link}
+use Rattle.book.specs.Reading.{bookOf}
+use Rattle.book.specs.Opening.{candidateQuestions}
+use Rattle.checker.specs.declared.Answer.{Answer}
+use Rattle.checker.specs.declared.Answer.the-variants.{Refused, Grade}
+
+module _ (b : List ℕ) where
+  -- "Is each candidate number below the count?" and "Is the term .. in range?"
+  abbrev pub gradeQuestions : (c i : ℕ) → List Question
+  gradeQuestions c i =
+      candidateQuestions b ++ (ask 20 (decLt c (candidates (bookOf b .grading))) ∷ ask 21 (decLt i (length (bookOf b .grading .terms))) ∷ [])
+
+  -- .. "or role (0–7), in range?"
+  abbrev pub linkQuestions : (r c d : ℕ) → List Question
+  linkQuestions r c d =
+      candidateQuestions b
+      ++ (ask 20 (dec-and (decLt c (candidates (bookOf b .grading))) (decLt d (candidates (bookOf b .grading)))) ∷ ask 21 (decLt r 8) ∷ [])
+
+-- the grade, where no question says no
+abbrev pub answered : ℕ → Option ℕ → Answer
+answered g none = Grade g
+answered g (some n) = Refused n
+
+module _ (b : List ℕ) where
+  -- what asking for the grade of term i in candidate c answers
+  unfoldable pub gradeAnswer : (c i : ℕ) → Answer
+  gradeAnswer c i = answered (gradeIn (bookOf b .grading) c i) (firstNo (gradeQuestions b c i))
+
+  -- what asking for the link from candidate c to candidate d for the role r answers
+  unfoldable pub linkAnswer : (r c d : ℕ) → Answer
+  linkAnswer r c d = answered (link (bookOf b .grading) r c d) (firstNo (linkQuestions b r c d))
+
+-- the document's number for each answer
+abbrev pub answerNumber : Answer → Option ℕ
+answerNumber (Refused n) = some n
+answerNumber (Grade g) = none
