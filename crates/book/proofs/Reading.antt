@@ -2,18 +2,19 @@
 -- Assumes nothing.
 use mathlib.Core.Path.{_≡_, sym, ap, _∙_}
 use mathlib.Core.List.{List}
-use Prim.Native.Nat.{ℕ, _-_, _/_, _≤_}
+use Prim.Native.Nat.{ℕ, _-_, _/_, _≤_, max}
 use native.Mathlib.Omega.{arith}
 use lib.ListN.{length, length-take, length-drop}
+use Rattle.chain.specs.Lists.{highest}
 use Rattle.chain.proofs.Lists.{each-table}
-use Rattle.semantics.specs.Books.{Book, Valid, RuleInRange, TermInRange}
+use Rattle.semantics.specs.Books.{Book, Valid, nameAbove, roleAbove, linkRoles, membershipIndividuals, linkIndividuals, nameCount, roleCount, individuals, RuleInRange, TermInRange}
 use Rattle.semantics.specs.Candidates.{NamesApart}
 use Rattle.semantics.proofs.Interpretations.{graded-well-formed}
 use Rattle.sections.specs.Terms.{termCount, termsOf}
 use Rattle.sections.specs.Rules.{ruleAt, ruleCount, rulesOf}
-use Rattle.sections.specs.Claims.{membershipAt, claimCount, membershipsOf}
+use Rattle.sections.specs.Claims.{membershipAt, claimCount, membershipsOf, linksOf}
 use Rattle.sections.proofs.Terms.{length-terms, terms-ordered, terms-apart}
-use Rattle.book.specs.Layout.{sectionsOf, CountsRight, stretch, termBytes, ruleBytes, membershipBytes, termsIn}
+use Rattle.book.specs.Layout.{sectionsOf, CountsRight, stretch, termBytes, ruleBytes, membershipBytes, linkBytes, termsIn}
 use Rattle.book.specs.Reading.{bookAt, bookOf}
 use Rattle.book.specs.Opening.{Accepts, Right}
 use Rattle.book.specs.declared.Sections.{Sections}
@@ -23,6 +24,10 @@ use Rattle.book.proofs.Opening.{accepts-right, right-ordered}
 sections-few : (b : List ℕ) → CountsRight b → termsIn (sectionsOf b) ≤ 64
 unfolding sectionsOf
 sections-few b h = omega arith
+
+sections-short : (b : List ℕ) → CountsRight b → sectionsOf b .rules - sectionsOf b .terms ≤ 192
+unfolding sectionsOf
+sections-short b h = omega arith
 
 pub length-stretch : (b : List ℕ) (from to : ℕ) → to ≤ length b → length (stretch b from to) ≡ to - from
 length-stretch b from to h = rw (length-take, length-drop) (omega arith)
@@ -41,6 +46,24 @@ module _ (b : List ℕ) (s : Sections) (ok : Right b s) where
 
   pub right-few : termsIn s ≤ 64
   right-few = rw (ok .sections-are) (sections-few b (ok .counts-right))
+
+  pub right-short : length (termBytes b s) ≤ 192
+  right-short =
+      let o = right-ordered b s ok in
+      rw (length-stretch b (s .terms) (s .rules) (omega arith), ok .sections-are) (sections-short b (ok .counts-right))
+
+  -- N, A, R and I, by the sections
+  pub right-counts : (bookOf b .grading .steps ≡ s .steps)
+      × (nameCount (bookOf b) ≡ highest nameAbove (termsOf (termBytes b s)))
+      × (roleCount (bookOf b) ≡ max (highest roleAbove (termsOf (termBytes b s))) (highest linkRoles (linksOf (linkBytes b s))))
+      × (individuals (bookOf b) ≡ max (highest membershipIndividuals (membershipsOf (membershipBytes b s))) (highest linkIndividuals (linksOf (linkBytes b s))))
+  unfolding nameCount roleCount individuals
+  right-counts = (
+    ap (λ (B : Book). B .grading .steps) (sym right-book),
+    ap nameCount (sym right-book),
+    ap roleCount (sym right-book),
+    ap individuals (sym right-book),
+  )
 
   pub right-length : length (bookOf b .grading .terms) ≡ termsIn s
   right-length = ap (λ (B : Book). length (B .grading .terms)) (sym right-book) ∙ length-terms (termBytes b s) ∙ right-terms

@@ -32,7 +32,7 @@ pub enum Counted {
 }
 
 // A two-byte number, the high byte first.
-fn word(b: &[u8], at: usize) -> usize
+pub fn word(b: &[u8], at: usize) -> usize
     requires { ⌜ at + 1 < length (now b) ⌝ }
     ensures { λ r. ⌜ (r ≡ wordAt (now (b .entry)) at) × (r < 65536) ⌝ }
 {

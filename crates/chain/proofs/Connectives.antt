@@ -3,8 +3,9 @@
 -- Assumes nothing.
 use mathlib.Core.Path.{_≡_, refl, sym, ap₂, _∙_}
 use mathlib.Core.Logic.{_⊎_, inl, inr, ⊎-elim, dite}
-use Prim.Native.Nat.{ℕ, zero, suc, _≤_, _<_}
+use Prim.Native.Nat.{ℕ, zero, suc, _+_, _≤_, _<_}
 use native.Mathlib.Nat.{not-suc-le-zero}
+use native.Mathlib.Numerals.{add-one}
 use native.Mathlib.Omega.{arith}
 use borrow.Author.Count.{below-more}
 use Rattle.chain.specs.Connectives.{Connectives, Lawful, zadeh, Quantifier, existential, universal, through, Within, within?, neutral, join, over}
@@ -90,6 +91,15 @@ join-which q x y = dite (within? q x y) (λ h. inr (second q h)) (λ n. inl (fir
 -- ---- over the elements: a bound of every value, the least such bound, and one of the values
 
 module _ (q : Quantifier) (N : ℕ) (f : ℕ → ℕ) where
+  -- over nothing, and over one element more, at the end, as a loop meets it
+  pub over-none : neutral q N ≡ over q N f 0
+  unfolding over
+  over-none = refl
+
+  pub over-more : (n : ℕ) → join q (over q N f n) (f n) ≡ over q N f (n + 1)
+  unfolding over
+  over-more n = rw (add-one n)
+
   pub over-upper : (n i : ℕ) → i < n → Within q (f i) (over q N f n)
   unfolding over
   over-upper zero i h = absurd (not-suc-le-zero h)

@@ -1,15 +1,15 @@
 -- Laws of lists as finite sets.
 -- Assumes nothing.
-use mathlib.Core.Path.{_≡_, refl, sym, ap, ap₂, subst}
+use mathlib.Core.Path.{_≡_, refl, sym, ap, ap₂, subst, _∙_}
 use mathlib.Core.Logic.{_⊎_, inl, inr, ⊎-elim, ite, _↔_}
-use mathlib.Core.List.{List, [], _∷_, _++_}
+use mathlib.Core.List.{List, [], _∷_, _++_, flatMap, append-nil, append-assoc}
 use Prim.Native.Nat.{ℕ, zero, suc, _+_, _≤_, _<_, max}
 use native.Mathlib.Nat.{not-suc-le-zero}
 use native.Mathlib.Decide.{ℕ-discrete}
 use native.Mathlib.Numerals.{add-one}
 use native.Mathlib.Omega.{arith}
 use lib.ListN.{length, getD, take, drop, set, length-append, length-drop}
-use lib.Seq.{append-snoc, drop-cons, set-at, take-at}
+use lib.Seq.{append-snoc, drop-cons, drop-length, set-at, take-at}
 use Rattle.chain.specs.Search.{First, first}
 use Rattle.chain.specs.Lists.{Mem, Each, highest, table, keep, from, Ascending, index}
 use Rattle.chain.proofs.Search.{below-cases}
@@ -44,6 +44,13 @@ module _ {A : Type 0} where
   at-mem (y ∷ ys) d x (inl e) = (0, omega arith, sym e)
   at-mem (y ∷ ys) d x (inr m) = let w = at-mem ys d x m in (suc (w .0), omega arith, w .2)
 
+  -- what holds of each member, by number
+  pub each-at : (P : A → Type 0) (xs : List A) (d : A) → Each P xs ↔ ((k : ℕ) → k < length xs → P (getD xs k d))
+  each-at P xs d = (
+    λ h k l. each-mem P xs h (getD xs k d) (mem-at xs k d l),
+    λ f. mem-each xs (λ x m. let w = at-mem xs d x m in subst P (w .2) (f (w .0) (w .1))),
+  )
+
   -- ---- the highest
 
   pub each-highest : (f : A → ℕ) (xs : List A) (n : ℕ) → highest f xs ≤ n → Each (λ x. f x ≤ n) xs
@@ -68,6 +75,12 @@ module _ {A : Type 0} where
   unfolding table
   each-table P f zero h = tt
   each-table P f (suc n) h = (h zero (omega arith), each-table P (λ i. f (suc i)) n (λ i l. h (suc i) (omega arith)))
+
+  pub table-same : (f g : ℕ → A) (n : ℕ) → ((i : ℕ) → i < n → f i ≡ g i) → table f n ≡ table g n
+  unfolding table
+  table-same f g zero h = refl
+  table-same f g (suc n) h =
+      ap₂ {C = List A} _∷_ (h zero (omega arith)) (table-same (λ i. f (suc i)) (λ i. g (suc i)) n (λ i l. h (suc i) (omega arith)))
 
   pub highest-none : (f : A → ℕ) (g : ℕ → A) → 0 ≡ highest f (table g 0)
   unfolding highest table
@@ -102,6 +115,23 @@ module _ {A : Type 0} where
     set-filled h =
         rw (add-one n, drop-cons xs n (f n) h, set-at (table f n) (getD xs n (f n)) (drop (suc n) xs) (f n) n (length-table f n), table-snoc f n)
         (sym (append-snoc (table f n) (f n) (drop (suc n) xs)))
+
+  -- all of it overwritten
+  pub table-filled : (f : ℕ → A) (n : ℕ) (d l : List A) → l ≡ table f n ++ drop n d → n ≡ length d → l ≡ table f (length d)
+  table-filled f n d l e h = e ∙ rw (h, drop-length, append-nil)
+
+  pub highest-le : (f : A → ℕ) (g : ℕ → A) (n m : ℕ) → ((i : ℕ) → i < n → f (g i) ≤ m) → highest f (table g n) ≤ m
+  unfolding highest table
+  highest-le f g zero m h = omega arith
+  highest-le f g (suc n) m h =
+      let rest = highest-le f (λ i. g (suc i)) n m (λ i l. h (suc i) (omega arith)) in
+      omega (arith, h zero (omega arith))
+
+  pub highest-at : (f : A → ℕ) (g : ℕ → A) (n i : ℕ) → i < n → f (g i) ≤ highest f (table g n)
+  unfolding highest table
+  highest-at f g zero i h = absurd (not-suc-le-zero h)
+  highest-at f g (suc n) zero h = omega arith
+  highest-at f g (suc n) (suc i) h = omega (arith, highest-at f (λ j. g (suc j)) n i (omega arith))
 
   -- one entry more, at the end, as a loop meets it
   pub highest-table : (f : A → ℕ) (g : ℕ → A) (n : ℕ) → highest f (table g (n + 1)) ≡ max (highest f (table g n)) (f (g n))
@@ -207,6 +237,25 @@ pub from-mem : (a n x : ℕ) → a ≤ x → x < a + n → Mem x (from a n)
 unfolding from
 from-mem a zero x h l = absurd (omega arith)
 from-mem a (suc n) x h l = ⊎-elim (λ e. inl (sym e)) (λ k. inr (from-mem (suc a) n x k (omega arith))) (below-cases x a (omega arith))
+
+-- what stands for each of them, one after another
+module _ {A : Type 0} where
+  pub flatMap-same : (f g : ℕ → List A) (a n : ℕ) → ((x : ℕ) → x < a + n → f x ≡ g x) → flatMap f (from a n) ≡ flatMap g (from a n)
+  unfolding flatMap from
+  flatMap-same f g a zero h = refl
+  flatMap-same f g a (suc n) h = ap₂ {C = List A} _++_ (h a (omega arith)) (flatMap-same f g (suc a) n (λ x l. h x (omega arith)))
+
+  -- none, and one more, at the end
+  pub flatMap-none : (f : ℕ → List A) (a : ℕ) → flatMap f (from a 0) ≡ []
+  unfolding flatMap from
+  flatMap-none f a = refl
+
+  pub flatMap-more : (f : ℕ → List A) (a n : ℕ) → flatMap f (from a (suc n)) ≡ flatMap f (from a n) ++ f (a + n)
+  unfolding flatMap from
+  flatMap-more f a zero = let e : a + 0 ≡ a = omega arith in rw (e, append-nil)
+  flatMap-more f a (suc n) =
+      let e : a + suc n ≡ suc a + n = omega arith in
+      rw (e, append-assoc) (ap (λ (r : List A). f a ++ r) (flatMap-more f (suc a) n))
 
 -- ---- ascending lists
 

@@ -1,12 +1,22 @@
 // The entry points. Each takes a book's bytes as they come, and refuses with the number of the first check that says no.
 ghost use mathlib.Core.Path.{_≡_};
-ghost use Prim.Native.Nat.{_<_};
+ghost use mathlib.Core.List.{_++_};
+ghost use Prim.Native.Nat.{_<_, _≤_};
+ghost use lib.ListN.{length, drop};
 ghost use Rattle.book.specs.Opening.{Right, countedOf};
 ghost use Rattle.book.specs.declared.Counted.the-variants.{Candidates};
+ghost use Rattle.book.specs.Reading.{bookOf};
+ghost use Rattle.sheets.specs.Reading.{sheetOf};
+ghost use Rattle.sheets.specs.Grids.{gridOf};
+ghost use Rattle.sheets.specs.Working.{verdictOf};
 ghost use Rattle.checker.specs.Asking.{gradeAnswer, linkAnswer};
+ghost use Rattle.checker.specs.Working.{SheetFits, gridSize, workedOf, gridAfter};
 use book::Counted;
 use book::Opened;
 use book::Sections;
+use sheets::Shape;
+use sheets::Sheet;
+use sheets::Verdict;
 
 // The number of the first check that says no, or a grade.
 pub enum Answer {
@@ -90,5 +100,102 @@ pub fn link(b: &[u8], role: u8, c: usize, d: usize) -> Answer
     match book::open(b) {
         Opened::Refused(n) => Answer::Refused(n),
         Opened::Accepted(s) => link_opened(b, s, role, c, d),
+    }
+}
+
+// ---- working out a sheet
+
+// The number of the first check that says no, or the verdict on the book's rules and claims.
+pub enum Worked {
+    Refused(u8),
+    Says(Verdict),
+}
+
+// On a sheet that fits an accepted book, with room in the grid: `values` is where the grades are worked out.
+fn work_fitting(
+    b: &[u8],
+    s: Sections,
+    sheet: &[u8],
+    p: Shape,
+    values: &mut [u8],
+    grid: &mut [u8],
+) -> Verdict
+    requires { ⌜ Right (now b) s ⌝ }
+    requires { ⌜ SheetFits (now b) (now sheet) p ⌝ }
+    requires { ⌜ (4096 ≤ length (now values)) × (gridSize (now b) (now sheet) ≤ length (now grid)) ⌝ }
+    ensures { λ r. ⌜ r ≡ verdictOf (bookOf (now (b .entry))) (sheetOf (now (sheet .entry))) ⌝ }
+    ensures { λ r. ⌜ now (grid .exit) ≡ gridOf (bookOf (now (b .entry)) .grading) (sheetOf (now (sheet .entry))) ++ drop (gridSize (now (b .entry)) (now (sheet .entry))) (now (grid .entry)) ⌝ }
+{
+    let terms = s.terms;
+    let rules = s.rules;
+    let memberships = s.memberships;
+    let claims = s.links;
+    let end = s.end;
+    let links = sheets::links_at(p);
+    let individuals = sheets::individuals_at(p);
+    let last = sheets::end_at(p);
+    let n = p.elements;
+    grids::work_out(
+        &b[terms..rules],
+        s.steps,
+        n,
+        p.names,
+        p.roles,
+        &sheet[12..links],
+        &sheet[links..individuals],
+        values,
+    );
+    grids::write_grid(values, (rules - terms) / 3, n, grid);
+    verdicts::verdict(
+        &b[rules..memberships],
+        &b[memberships..claims],
+        &b[claims..end],
+        values,
+        n,
+        &sheet[links..individuals],
+        &sheet[individuals..last],
+    )
+}
+
+fn work_shaped(b: &[u8], s: Sections, sheet: &[u8], p: Shape, grid: &mut [u8]) -> Worked
+    requires { ⌜ Right (now b) s ⌝ }
+    requires { ⌜ SheetFits (now b) (now sheet) p ⌝ }
+    ensures { λ r. ⌜ r ≡ workedOf (now (b .entry)) (now (sheet .entry)) (length (now (grid .entry))) ⌝ }
+    ensures { λ r. ⌜ now (grid .exit) ≡ gridAfter (now (b .entry)) (now (sheet .entry)) (now (grid .entry)) ⌝ }
+{
+    if grid.len() < p.elements * ((s.rules - s.terms) / 3) {
+        return Worked::Refused(16);
+    }
+    let mut values = [0u8; 4096];
+    Worked::Says(work_fitting(b, s, sheet, p, &mut values, grid))
+}
+
+fn work_opened(b: &[u8], s: Sections, sheet: &[u8], grid: &mut [u8]) -> Worked
+    requires { ⌜ Right (now b) s ⌝ }
+    ensures { λ r. ⌜ r ≡ workedOf (now (b .entry)) (now (sheet .entry)) (length (now (grid .entry))) ⌝ }
+    ensures { λ r. ⌜ now (grid .exit) ≡ gridAfter (now (b .entry)) (now (sheet .entry)) (now (grid .entry)) ⌝ }
+{
+    let terms = s.terms;
+    let rules = s.rules;
+    let memberships = s.memberships;
+    let links = s.links;
+    let end = s.end;
+    let names = counts::count_names(&b[terms..rules]);
+    let roles = counts::count_roles(&b[terms..rules], &b[links..end]);
+    let individuals = counts::count_individuals(&b[memberships..links], &b[links..end]);
+    match sheets::open_sheet(sheet, s.steps, names, roles, individuals) {
+        Sheet::Refused(n) => Worked::Refused(n),
+        Sheet::Right(p) => work_shaped(b, s, sheet, p, grid),
+    }
+}
+
+// Works out a sheet on a book: the grid takes each element's row of term grades, and the verdict comes back.
+pub fn work_out(b: &[u8], sheet: &[u8], grid: &mut [u8]) -> Worked
+    ensures { λ r. ⌜ r ≡ workedOf (now (b .entry)) (now (sheet .entry)) (length (now (grid .entry))) ⌝ }
+    ensures { λ r. ⌜ now (grid .exit) ≡ gridAfter (now (b .entry)) (now (sheet .entry)) (now (grid .entry)) ⌝ }
+{
+    match book::open(b) {
+        Opened::Refused(n) => Worked::Refused(n),
+        Opened::Accepted(s) => work_opened(b, s, sheet, grid),
     }
 }

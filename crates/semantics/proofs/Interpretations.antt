@@ -21,6 +21,23 @@ graded-well-formed N ts o = record { lawful = zadeh-lawful N; ordered = o }
 abbrev pub taken : Grading → Interpretation → Quantifier → (r x e f : ℕ) → ℕ
 taken G I q r x e f = through (G .connectives) q (I .links r e f) (gradeAt G I x f)
 
+-- a term's grade at an element looks at its children's grades, at the elements only
+pub atElements-same : (G : Grading) (I : Interpretation) (i : ℕ) (t : Term) → Children i t → (v u : ℕ → ℕ → ℕ)
+    → ((j : ℕ) → j < i → (e : ℕ) → e < I .size → v j e ≡ u j e)
+    → (e : ℕ) → e < I .size → local (atElements G I) i t v e ≡ local (atElements G I) i t u e
+atElements-same G I i (name a) c v u same e h = refl
+atElements-same G I i (not x) c v u same e h = ap (G .connectives .negation) (same x c e h)
+atElements-same G I i (and x y) c v u same e h = ap₂ (G .connectives .conjunction) (same x (c .0) e h) (same y (c .1) e h)
+atElements-same G I i (or x y) c v u same e h = ap₂ (G .connectives .disjunction) (same x (c .0) e h) (same y (c .1) e h)
+atElements-same G I i (some r x) c v u same e h =
+    over-same existential (G .steps) (λ f. G .connectives .conjunction (I .links r e f) (v x f)) (λ f. G .connectives .conjunction (I .links r e f) (u x f)) (I .size)
+    (λ f g. ap (G .connectives .conjunction (I .links r e f)) (same x c f g))
+atElements-same G I i (all r x) c v u same e h =
+    over-same universal (G .steps) (λ f. G .connectives .implication (I .links r e f) (v x f)) (λ f. G .connectives .implication (I .links r e f) (u x f)) (I .size)
+    (λ f g. ap (G .connectives .implication (I .links r e f)) (same x c f g))
+atElements-same G I i top c v u same e h = refl
+atElements-same G I i bottom c v u same e h = refl
+
 module _ (G : Grading) (I : Interpretation) (w : WellFormed G) where
   -- the table's row for the kind of term i
   pub gradeAt-local : (i : ℕ) → i < length (G .terms) → (t : Term) → term (G .terms) i ≡ t → (e : ℕ) → gradeAt G I i e ≡ local (atElements G I) i t (gradeAt G I) e
@@ -57,19 +74,5 @@ module _ (G : Grading) (I : Interpretation) (w : WellFormed G) where
       → (i : ℕ) → i < length (G .terms) → (e : ℕ) → e < I .size → v i e ≡ gradeAt G I i e
   gradeAt-unique v obeys =
       strong (λ i. i < length (G .terms) → (e : ℕ) → e < I .size → v i e ≡ gradeAt G I i e) (λ i ih l e h.
-      obeys i l e h ∙ go i (term (G .terms) i) (w .ordered i l) (λ j g. ih j g (omega arith)) e h ∙ sym (gradeAt-local i l (term (G .terms) i) refl e))
-    where
-      go : (i : ℕ) (t : Term) → Children i t → ((j : ℕ) → j < i → (e : ℕ) → e < I .size → v j e ≡ gradeAt G I j e) → (e : ℕ) → e < I .size
-          → local (atElements G I) i t v e ≡ local (atElements G I) i t (gradeAt G I) e
-      go i (name a) c ih e h = refl
-      go i (not x) c ih e h = ap (G .connectives .negation) (ih x c e h)
-      go i (and x y) c ih e h = ap₂ (G .connectives .conjunction) (ih x (c .0) e h) (ih y (c .1) e h)
-      go i (or x y) c ih e h = ap₂ (G .connectives .disjunction) (ih x (c .0) e h) (ih y (c .1) e h)
-      go i (some r x) c ih e h =
-          over-same existential (G .steps) (λ f. G .connectives .conjunction (I .links r e f) (v x f)) (taken G I existential r x e) (I .size)
-          (λ f g. ap (G .connectives .conjunction (I .links r e f)) (ih x c f g))
-      go i (all r x) c ih e h =
-          over-same universal (G .steps) (λ f. G .connectives .implication (I .links r e f) (v x f)) (taken G I universal r x e) (I .size)
-          (λ f g. ap (G .connectives .implication (I .links r e f)) (ih x c f g))
-      go i top c ih e h = refl
-      go i bottom c ih e h = refl
+      obeys i l e h ∙ atElements-same G I i (term (G .terms) i) (w .ordered i l) v (gradeAt G I) (λ j g. ih j g (omega arith)) e h
+      ∙ sym (gradeAt-local i l (term (G .terms) i) refl e))

@@ -30,6 +30,22 @@ individualsAt p = linksAt p + p .roles * (p .elements * p .elements)
 abbrev pub endAt : Shape → ℕ
 endAt p = individualsAt p + p .individuals
 
+-- an index, of 64 bits, can say where the sheet ends, and so where each body begins
+abbrev pub Indexable : Shape → Type 0
+Indexable p = endAt p < 18446744073709551616
+
+module _ (p : Shape) where
+  -- "n of 1 to 64, and the book's A, R, I"
+  abbrev pub CountsAgree : (A R I : ℕ) → Type 0
+  CountsAgree A R I = (1 ≤ p .elements) × ((p .elements ≤ 64) × ((p .names ≡ A) × ((p .roles ≡ R) × (p .individuals ≡ I))))
+
+  unfoldable pub countsAgree? : (A R I : ℕ) → Dec (CountsAgree A R I)
+  unfolding dec-and decLe ℕ-discrete
+  countsAgree? A R I =
+      dec-and (decLe 1 (p .elements))
+      (dec-and (decLe (p .elements) 64)
+      (dec-and (ℕ-discrete (p .names) A) (dec-and (ℕ-discrete (p .roles) R) (ℕ-discrete (p .individuals) I))))
+
 module _ (b : List ℕ) (p : Shape) where
   abbrev pub nameBytes : List ℕ
   nameBytes = stretch b namesAt (linksAt p)
@@ -44,20 +60,13 @@ module _ (b : List ℕ) (p : Shape) where
 
   -- "Has it 12 bytes or more, byte 0 equal to 1, the book's N, n of 1 to 64, and the book's A, R, I?"
   abbrev pub HeadRight : (N A R I : ℕ) → Type 0
-  HeadRight N A R I =
-      (12 ≤ length b)
-      × ((getD b 0 0 ≡ 1)
-      × ((getD b 1 0 ≡ N) × ((1 ≤ p .elements) × ((p .elements ≤ 64) × ((p .names ≡ A) × ((p .roles ≡ R) × (p .individuals ≡ I)))))))
+  HeadRight N A R I = (12 ≤ length b) × ((getD b 0 0 ≡ 1) × ((getD b 1 0 ≡ N) × CountsAgree p A R I))
 
   unfoldable pub headRight? : (N A R I : ℕ) → Dec (HeadRight N A R I)
-  unfolding dec-and decLe ℕ-discrete
+  unfolding dec-and decLe ℕ-discrete countsAgree?
   headRight? N A R I =
       dec-and (decLe 12 (length b))
-      (dec-and (ℕ-discrete (getD b 0 0) 1)
-      (dec-and (ℕ-discrete (getD b 1 0) N)
-      (dec-and (decLe 1 (p .elements))
-      (dec-and (decLe (p .elements) 64)
-      (dec-and (ℕ-discrete (p .names) A) (dec-and (ℕ-discrete (p .roles) R) (ℕ-discrete (p .individuals) I)))))))
+      (dec-and (ℕ-discrete (getD b 0 0) 1) (dec-and (ℕ-discrete (getD b 1 0) N) (countsAgree? p A R I)))
 
   -- "Do offsets and length agree?"
   abbrev pub SheetLaidOut : Type 0

@@ -1,4 +1,5 @@
 pub mod Layout
+pub mod Opening
 pub mod Reading
 pub mod Grids
 pub mod Working

@@ -2,50 +2,116 @@
 -- first link claim". Document 01, "Working out a sheet".
 -- Assumes nothing.
 use mathlib.Core.Path.{_≡_}
-use mathlib.Core.Logic.{⊎-elim}
-use mathlib.Core.Option.{Option, none, some}
-use mathlib.Core.List.{List, [], _∷_}
-use Prim.Native.Nat.{ℕ, suc, _<_}
-use native.Mathlib.Decide.{decLt, decLe}
-use Rattle.chain.specs.Search.{first}
+use mathlib.Core.List.{List}
+use Prim.Native.Nat.{ℕ, zero, suc, _≤_, _<_}
+use native.Mathlib.Decide.{decLe}
+use lib.ListN.{length, getD}
+use Rattle.chain.specs.Lists.{Each}
 use Rattle.semantics.specs.Interpretations.{Grading, Interpretation, gradeAt}
-use Rattle.semantics.specs.Books.{Rule, MembershipClaim, LinkClaim, Book, claimed?, MeetsMembership, MeetsLink}
+use Rattle.semantics.specs.Books.{Rule, at-least, MembershipClaim, LinkClaim, Book, claimed?, MeetsRule, MeetsMembership, MeetsLink}
 use Rattle.sheets.specs.declared.Verdict.{Verdict}
 use Rattle.sheets.specs.declared.Verdict.the-variants.{Meets, BreaksRule, BreaksMembership, BreaksLink}
 
-module _ (G : Grading) (I : Interpretation) where
-  -- rule q is broken at element e
-  abbrev pub BreaksAt : Rule → ℕ → Type 0
-  BreaksAt q e = gradeAt G I (q .right) e < gradeAt G I (q .left) e
+-- ---- verdicts in order
 
-  unfoldable pub breaksAt? : (q : Rule) (e : ℕ) → Dec (BreaksAt q e)
-  unfolding decLt
-  breaksAt? q e = decLt (gradeAt G I (q .right) e) (gradeAt G I (q .left) e)
+-- something is broken
+abbrev pub Broken : Verdict → Type 0
+Broken v = ¬ (v ≡ Meets)
 
-  unfoldable pub meetsMembership? : (q : MembershipClaim) → Dec (MeetsMembership G I q)
-  unfolding claimed?
-  meetsMembership? q = claimed? (q .sense) (q .grade) (gradeAt G I (q .term) (I .element (q .individual)))
+-- "meets" where a fact holds, or else what it is that is broken
+unfoldable pub judge : {A : Type 0} → Dec A → Verdict → Verdict
+judge (yes _) broken = Meets
+judge (no _) broken = broken
 
-  unfoldable pub meetsLink? : (q : LinkClaim) → Dec (MeetsLink I q)
+-- the one verdict, "else" the other
+unfoldable pub orElse : Verdict → Verdict → Verdict
+orElse Meets w = w
+orElse (BreaksRule k e) w = BreaksRule k e
+orElse (BreaksMembership k) w = BreaksMembership k
+orElse (BreaksLink k) w = BreaksLink k
+
+-- the first of f 0, f 1, .., n of them, that is not "meets"
+unfoldable pub firstBroken : (ℕ → Verdict) → ℕ → Verdict
+firstBroken f zero = Meets
+firstBroken f (suc n) = orElse (firstBroken f n) (f n)
+
+-- ---- rules and claims by number
+
+abbrev pub nthRule : List Rule → ℕ → Rule
+nthRule rs k = getD rs k (record { left = 0; right = 0 })
+
+abbrev pub nthMembership : List MembershipClaim → ℕ → MembershipClaim
+nthMembership ms k = getD ms k (record { individual = 0; term = 0; sense = at-least; grade = 0 })
+
+abbrev pub nthLink : List LinkClaim → ℕ → LinkClaim
+nthLink ls k = getD ls k (record { role = 0; source = 0; target = 0; grade = 0 })
+
+-- ---- one rule or claim, q, of number k, by the terms' grades wherever these stand
+
+module _ (grade : (term element : ℕ) → ℕ) where
+  unfoldable pub ruleVerdictAt : (k : ℕ) → Rule → (element : ℕ) → Verdict
   unfolding decLe
-  meetsLink? q = decLe (q .grade) (I .links (q .role) (I .element (q .source)) (I .element (q .target)))
+  ruleVerdictAt k q e = judge (decLe (grade (q .left) e) (grade (q .right) e)) (BreaksRule k e)
 
-  -- after the rules and membership claims: the first link claim broken, of those numbered k on
-  unfoldable pub linkVerdict : ℕ → List LinkClaim → Verdict
-  linkVerdict k [] = Meets
-  linkVerdict k (q ∷ qs) = elim (meetsLink? q) [ yes _ ↦ linkVerdict (suc k) qs | no _ ↦ BreaksLink k ]
+  -- on n elements: where it is broken, with the lowest at which it is
+  unfoldable pub ruleVerdict : (n k : ℕ) → Rule → Verdict
+  ruleVerdict n k q = firstBroken (ruleVerdictAt k q) n
 
-  -- after the rules: the first membership claim broken, of those numbered k on, else what the link claims say
-  unfoldable pub membershipVerdict : ℕ → List MembershipClaim → Verdict → Verdict
-  membershipVerdict k [] rest = rest
-  membershipVerdict k (q ∷ qs) rest = elim (meetsMembership? q) [ yes _ ↦ membershipVerdict (suc k) qs rest | no _ ↦ BreaksMembership k ]
+  unfoldable pub membershipVerdict : (element : (individual : ℕ) → ℕ) (k : ℕ) → MembershipClaim → Verdict
+  unfolding claimed?
+  membershipVerdict element k q = judge (claimed? (q .sense) (q .grade) (grade (q .term) (element (q .individual)))) (BreaksMembership k)
 
-  -- the first rule broken, of those numbered k on, with its lowest element, else what the claims say
-  unfoldable pub ruleVerdict : ℕ → List Rule → Verdict → Verdict
-  ruleVerdict k [] rest = rest
-  ruleVerdict k (q ∷ qs) rest = ⊎-elim (λ w. BreaksRule k (w .0)) (λ _. ruleVerdict (suc k) qs rest) (first (breaksAt? q) (I .size))
+unfoldable pub linkVerdict : Interpretation → (k : ℕ) → LinkClaim → Verdict
+unfolding decLe
+linkVerdict I k q = judge (decLe (q .grade) (I .links (q .role) (I .element (q .source)) (I .element (q .target)))) (BreaksLink k)
+
+-- ---- all of them
+
+module _ (grade : (term element : ℕ) → ℕ) where
+  unfoldable pub rulesVerdict : (n : ℕ) → List Rule → Verdict
+  rulesVerdict n rs = firstBroken (λ k. ruleVerdict grade n k (nthRule rs k)) (length rs)
+
+  unfoldable pub membershipsVerdict : (element : (individual : ℕ) → ℕ) → List MembershipClaim → Verdict
+  membershipsVerdict element ms = firstBroken (λ k. membershipVerdict grade element k (nthMembership ms k)) (length ms)
+
+unfoldable pub linksVerdict : Interpretation → List LinkClaim → Verdict
+linksVerdict I ls = firstBroken (λ k. linkVerdict I k (nthLink ls k)) (length ls)
+
+-- "the first rule broken .., else the first membership claim broken, else the first link claim"
+unfoldable pub verdictBy : (grade : (term element : ℕ) → ℕ) → Interpretation → List Rule → List MembershipClaim → List LinkClaim → Verdict
+verdictBy grade I rs ms ls = orElse (rulesVerdict grade (I .size) rs) (orElse (membershipsVerdict grade (I .element) ms) (linksVerdict I ls))
 
 -- the answer on a book and an interpretation
 unfoldable pub verdictOf : Book → Interpretation → Verdict
-verdictOf B I =
-    ruleVerdict (B .grading) I 0 (B .rules) (membershipVerdict (B .grading) I 0 (B .memberships) (linkVerdict (B .grading) I 0 (B .links)))
+verdictOf B I = verdictBy (gradeAt (B .grading) I) I (B .rules) (B .memberships) (B .links)
+
+-- ---- what each answer says
+
+-- k is the first number below n at which P fails
+pub record FirstFailing (P : ℕ → Type 0) (n k : ℕ) : Type 0 where
+  pub below : k < n
+  pub fails : ¬ P k
+  pub passed : (j : ℕ) → j < k → P j
+
+-- rule q is met at element e
+abbrev pub MeetsRuleAt : Grading → Interpretation → Rule → ℕ → Type 0
+MeetsRuleAt G I q e = gradeAt G I (q .left) e ≤ gradeAt G I (q .right) e
+
+module _ (B : Book) (I : Interpretation) where
+  abbrev pub RulesMet : Type 0
+  RulesMet = Each (MeetsRule (B .grading) I) (B .rules)
+
+  abbrev pub MembershipsMet : Type 0
+  MembershipsMet = Each (MeetsMembership (B .grading) I) (B .memberships)
+
+  abbrev pub LinksMet : Type 0
+  LinksMet = Each (MeetsLink I) (B .links)
+
+  abbrev pub Says : Verdict → Type 0
+  Says Meets = RulesMet × MembershipsMet × LinksMet
+  Says (BreaksRule k e) =
+      FirstFailing (λ j. MeetsRule (B .grading) I (nthRule (B .rules) j)) (length (B .rules)) k
+      × FirstFailing (MeetsRuleAt (B .grading) I (nthRule (B .rules) k)) (I .size) e
+  Says (BreaksMembership k) =
+      RulesMet × FirstFailing (λ j. MeetsMembership (B .grading) I (nthMembership (B .memberships) j)) (length (B .memberships)) k
+  Says (BreaksLink k) = RulesMet × MembershipsMet × FirstFailing (λ j. MeetsLink I (nthLink (B .links) j)) (length (B .links)) k

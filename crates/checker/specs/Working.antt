@@ -1,0 +1,59 @@
+-- What working out a sheet on a book answers, and what it leaves in the grid: after the checks 1 to 9, 13 to 15 and then 16.
+-- Assumes nothing.
+use mathlib.Core.Option.{Option, none, some}
+use mathlib.Core.List.{List, [], _∷_, _++_}
+use Prim.Native.Nat.{ℕ, _*_, _≤_}
+use native.Mathlib.Decide.{decLe}
+use lib.ListN.{length, drop}
+use Rattle.chain.specs.Questions.{Question, ask, firstNo}
+use Rattle.semantics.specs.Books.{nameCount, roleCount, individuals}
+use Rattle.book.specs.Reading.{bookOf}
+use Rattle.book.specs.Opening.{bookQuestions}
+use Rattle.sheets.specs.Layout.{shapeOf}
+use Rattle.sheets.specs.Reading.{sheetOf}
+use Rattle.sheets.specs.Grids.{gridOf}
+use Rattle.sheets.specs.Opening.{sheetQuestions, SheetRight}
+use Rattle.sheets.specs.Working.{verdictOf}
+use Rattle.sheets.specs.declared.Shape.{Shape}
+use Rattle.checker.specs.declared.Worked.{Worked}
+use Rattle.checker.specs.declared.Worked.the-variants.{Refused, Says}
+
+-- of the book's bytes b and the sheet's bytes t
+module _ (b t : List ℕ) where
+  -- "n times the term count"
+  unfoldable pub gridSize : ℕ
+  gridSize = shapeOf t .elements * length (bookOf b .grading .terms)
+
+  -- 13 to 15, by the book's N, A, R and I
+  abbrev pub bookSheetQuestions : List Question
+  bookSheetQuestions =
+      sheetQuestions t (shapeOf t) (bookOf b .grading .steps) (nameCount (bookOf b)) (roleCount (bookOf b)) (individuals (bookOf b))
+
+  -- what they say yes to, of a sheet of the shape p
+  abbrev pub SheetFits : Shape → Type 0
+  SheetFits p = SheetRight t p (bookOf b .grading .steps) (nameCount (bookOf b)) (roleCount (bookOf b)) (individuals (bookOf b))
+
+  -- "Working out a sheet, after 9", with a grid buffer of g bytes: .. "Has the grid buffer n times the term count?"
+  abbrev pub workQuestions : (g : ℕ) → List Question
+  workQuestions g = bookQuestions b ++ (bookSheetQuestions ++ (ask 16 (decLe gridSize g) ∷ []))
+
+  -- the verdict, where no question says no
+  abbrev pub worked : Option ℕ → Worked
+  worked none = Says (verdictOf (bookOf b) (sheetOf t))
+  worked (some n) = Refused n
+
+  unfoldable pub workedOf : (g : ℕ) → Worked
+  workedOf g = worked (firstNo (workQuestions g))
+
+  -- "The grid then holds each element's row of term grades, and bytes past it are kept"; a refusal changes nothing
+  abbrev pub gridBy : Option ℕ → List ℕ → List ℕ
+  gridBy none grid = gridOf (bookOf b .grading) (sheetOf t) ++ drop gridSize grid
+  gridBy (some n) grid = grid
+
+  unfoldable pub gridAfter : List ℕ → List ℕ
+  gridAfter grid = gridBy (firstNo (workQuestions (length grid))) grid
+
+-- the document's number for each answer
+abbrev pub workedNumber : Worked → Option ℕ
+workedNumber (Refused n) = some n
+workedNumber (Says v) = none

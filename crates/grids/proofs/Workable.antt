@@ -1,0 +1,135 @@
+-- Laws of working out: what the premises give for each term, the grade by kinds from the columns, and one cell more.
+-- Assumes nothing.
+use mathlib.Core.Path.{_≡_, refl, sym, ap, ap₂, subst, _∙_}
+use mathlib.Core.List.{List, []}
+use Prim.Native.Nat.{ℕ, suc, _+_, _*_, _≤_, _<_}
+use native.Mathlib.Omega.{arith}
+use lib.ListN.{length, getD, take, drop, set}
+use lib.Seq.{getD-set-same, getD-set-other}
+use borrow.Author.Count.{below-more}
+use Rattle.chain.specs.Connectives.{Quantifier, zadeh, through}
+use Rattle.chain.specs.Lists.{highest}
+use Rattle.chain.proofs.Connectives.{zadeh-lawful, over-same}
+use Rattle.chain.proofs.Lists.{each-highest, each-mem, mem-at}
+use Rattle.semantics.specs.Terms.{Term, bottom, Children}
+use Rattle.semantics.specs.Interpretations.{graded, WellFormed, OnChain, gradeAt}
+use Rattle.semantics.specs.Books.{nameAbove, roleAbove}
+use Rattle.semantics.proofs.Interpretations.{atElements-same, gradeAt-local, gradeAt-le}
+use Rattle.sections.specs.Terms.{termOf, kindAt, aAt, bAt, termCount, termAt, termsOf, InRange}
+use Rattle.sections.proofs.Terms.{by-kind, length-terms, term-at, terms-ordered}
+use Rattle.sheets.specs.Reading.{interpretation}
+use Rattle.grids.specs.Columns.{cellAt}
+use Rattle.grids.specs.Workable.{Workable, WorkedTo, WorkedIn, gradeFrom, takenOver, takenAt, Reached}
+use Rattle.grids.proofs.Bounds.{entry-below, block-row-end, part-long, part-at}
+
+-- ---- by kinds
+
+module _ (s : List ℕ) (i : ℕ) where
+  -- what "in range" comes to where the kind is known
+  pub range-kind : (k : ℕ) → kindAt s i ≡ k → InRange i (termAt s i) → InRange i (termOf k (aAt s i) (bAt s i))
+  range-kind k e h = subst (λ (z : ℕ). InRange i (termOf z (aAt s i) (bAt s i))) e h
+
+  module _ (N n A : ℕ) (names links v : List ℕ) (e : ℕ) where
+    pub grade-kind : (k : ℕ) → kindAt s i ≡ k
+        → gradeFrom N n A names links v i (termOf k (aAt s i) (bAt s i)) e ≡ gradeFrom N n A names links v i (termAt s i) e
+    grade-kind k h = ap (λ (z : ℕ). gradeFrom N n A names links v i (termOf z (aAt s i) (bAt s i)) e) (sym h)
+
+    -- the kind that is left
+    pub grade-bottom : ¬ (kindAt s i ≡ 0) → ¬ (kindAt s i ≡ 1) → ¬ (kindAt s i ≡ 2) → ¬ (kindAt s i ≡ 3) → ¬ (kindAt s i ≡ 4) → ¬ (kindAt s i ≡ 5)
+        → ¬ (kindAt s i ≡ 6) → 0 ≡ gradeFrom N n A names links v i (termAt s i) e
+    grade-bottom n0 n1 n2 n3 n4 n5 n6 =
+        by-kind (λ k t. k ≡ kindAt s i → 0 ≡ gradeFrom N n A names links v i t e) (aAt s i) (bAt s i) (λ h. absurd (n0 (sym h)))
+        (λ h. absurd (n1 (sym h))) (λ h. absurd (n2 (sym h))) (λ h. absurd (n3 (sym h))) (λ h. absurd (n4 (sym h))) (λ h. absurd (n5 (sym h)))
+        (λ h. absurd (n6 (sym h))) (λ h. refl) (λ k l h. refl) (kindAt s i) refl
+
+-- ---- quantified terms, over the row of links and the child's column as they are lent
+
+module _ {n : ℕ} {links v : List ℕ} {r x e : ℕ} (ok : Reached n links v r x e) {row column : List ℕ}
+    (row-is : row ≡ take n (drop (n * (n * r + e)) links)) (column-is : column ≡ take n (drop (64 * x) v)) where
+  pub lent-long : (n ≤ length row) × (n ≤ length column)
+  lent-long = (
+    part-long links row n (n * (n * r + e)) row-is (ok .row-end),
+    part-long v column n (64 * x) column-is (omega (arith, ok .few-elements, ok .child, ok .room)),
+  )
+
+  pub row-le : (N : ℕ) → ((k : ℕ) → getD links k 0 ≤ N) → (f : ℕ) → f < n → getD row f 0 ≤ N
+  row-le N h f l = rw (part-at links row n (n * (n * r + e)) row-is f l) (h _)
+
+  pub taken-lent : (q : Quantifier) (N : ℕ) → takenOver q N row column n ≡ takenAt q N n links v r x e
+  taken-lent q N =
+      over-same q N _ _ n (λ f h. ap₂ (through (zadeh N) q) (part-at links row n (n * (n * r + e)) row-is f h) (part-at v column n (64 * x) column-is f h))
+
+-- ---- what the premises give
+
+-- a bound on the terms is one on each
+counted : (s : List ℕ) (f : Term → ℕ) (m : ℕ) → highest f (termsOf s) ≤ m → (i : ℕ) → i < termCount s → f (termAt s i) ≤ m
+counted s f m h i l =
+    subst (λ (t : Term). f t ≤ m) (term-at s i l)
+    (each-mem (λ t. f t ≤ m) (termsOf s) (each-highest f (termsOf s) m h) _ (mem-at (termsOf s) i bottom (rw (length-terms s) l)))
+
+module _ {s : List ℕ} {N n A R : ℕ} {names links : List ℕ} (w : Workable s N n A R names links) where
+  well-formed : WellFormed (graded N (termsOf s))
+  well-formed = record { lawful = zadeh-lawful N; ordered = terms-ordered s (w .right) }
+
+  on-chain : 0 < n → OnChain N (interpretation n A names links [])
+  on-chain h = record { inhabited = h; names-le = λ a e l. w .names-le _; links-le = λ r e f l g. w .links-le _; element-lt = λ j. h }
+
+  module _ (i : ℕ) (h : i < termCount s) where
+    pub in-range : InRange i (termAt s i)
+    in-range = w .right i h .0 .0
+
+    at-term : i < length (termsOf s)
+    at-term = rw (length-terms s) h
+
+    pub name-below : (e : ℕ) → e < n → kindAt s i ≡ 0 → A * e + aAt s i < length names
+    name-below e l k =
+        let m : nameAbove (termOf 0 (aAt s i) (bAt s i)) ≤ A =
+        subst (λ (z : ℕ). nameAbove (termOf z (aAt s i) (bAt s i)) ≤ A) k (counted s nameAbove A (w .names-counted) i h) in
+        omega (arith, entry-below A (aAt s i) e n (omega arith) l, w .names-long)
+
+    -- of a kind with a role and a child
+    pub reached : (v : List ℕ) → 4096 ≤ length v → (e : ℕ) → e < n → (k : ℕ) → kindAt s i ≡ k
+        → suc (aAt s i) ≡ roleAbove (termOf k (aAt s i) (bAt s i)) → (InRange i (termOf k (aAt s i) (bAt s i)) → bAt s i < i)
+        → Reached n links v (aAt s i) (bAt s i) e
+    reached v long e l k q names below =
+        let m : roleAbove (termOf k (aAt s i) (bAt s i)) ≤ R =
+        subst (λ (z : ℕ). roleAbove (termOf z (aAt s i) (bAt s i)) ≤ R) q (counted s roleAbove R (w .roles-counted) i h) in
+        record {
+          few-elements = w .few-elements;
+          element = l;
+          row-end = omega (arith, block-row-end n (aAt s i) R e (omega arith) l, w .links-long);
+          child = omega (arith, below (range-kind s i k q in-range), w .few-terms);
+          room = long;
+        }
+
+  -- the columns so far are on the chain
+  pub cell-le : (k : ℕ) (v : List ℕ) → k ≤ termCount s → WorkedTo s N n A names links k v → (i : ℕ) → i < k → (e : ℕ) → e < n → cellAt v i e ≤ N
+  cell-le k v l holds i h e g =
+      rw (holds [] i h e g) (gradeAt-le (graded N (termsOf s)) (interpretation n A names links []) well-formed (on-chain (omega arith)) i
+      (at-term i (omega arith)) e g)
+
+  -- what they give for the next term is its grade
+  pub grade-worked : (k : ℕ) (v : List ℕ) → k < termCount s → WorkedTo s N n A names links k v → (e : ℕ) → e < n → (js : List ℕ)
+      → gradeFrom N n A names links v k (termAt s k) e ≡ gradeAt (graded N (termsOf s)) (interpretation n A names links js) k e
+  grade-worked k v h holds e g js =
+      atElements-same (graded N (termsOf s)) (interpretation n A names links js) k (termAt s k)
+      (subst (Children k) (term-at s k h) (well-formed .ordered k (at-term k h))) (cellAt v) _ (holds js) e g
+      ∙ sym (gradeAt-local (graded N (termsOf s)) (interpretation n A names links js) well-formed k (at-term k h) (termAt s k) (term-at s k h) e)
+
+  -- ---- one cell more, and one column
+
+  module _ (k e g : ℕ) (v : List ℕ) (l : e < n) where
+    pub worked-kept : WorkedTo s N n A names links k v → WorkedTo s N n A names links k (set v (64 * k + e) g)
+    worked-kept holds js i h f m = getD-set-other v (64 * k + e) (64 * i + f) g 0 (λ q. omega (arith, w .few-elements)) ∙ holds js i h f m
+
+    pub worked-cell : k < termCount s → 64 * k + e < length v → WorkedTo s N n A names links k v → WorkedIn s N n A names links k e v
+        → g ≡ gradeFrom N n A names links v k (termAt s k) e → WorkedIn s N n A names links k (e + 1) (set v (64 * k + e) g)
+    worked-cell h room holds before q js =
+        below-more (λ f. cellAt (set v (64 * k + e) g) k f ≡ gradeAt (graded N (termsOf s)) (interpretation n A names links js) k f) e
+        (λ f m. getD-set-other v (64 * k + e) (64 * k + f) g 0 (λ r. omega arith) ∙ before js f m)
+        (getD-set-same v (64 * k + e) g 0 room ∙ q ∙ grade-worked k v h holds e l js)
+
+pub worked-column : (s : List ℕ) (N n A : ℕ) (names links : List ℕ) (k : ℕ) (v : List ℕ) → WorkedTo s N n A names links k v
+    → WorkedIn s N n A names links k n v → WorkedTo s N n A names links (k + 1) v
+worked-column s N n A names links k v holds column js =
+    below-more (λ i. (e : ℕ) → e < n → cellAt v i e ≡ gradeAt (graded N (termsOf s)) (interpretation n A names links js) i e) k (holds js) (column js)

@@ -1,0 +1,62 @@
+-- What working out the grades asks of a book's terms and of a sheet's bodies, and the grade of one term from the columns of those below it.
+-- Assumes nothing.
+use mathlib.Core.Path.{_≡_}
+use mathlib.Core.List.{List, []}
+use Prim.Native.Nat.{ℕ, _+_, _*_, _≤_, _<_}
+use lib.ListN.{length, getD}
+use Rattle.chain.specs.Connectives.{Quantifier, zadeh, through, over}
+use Rattle.chain.specs.Lists.{highest}
+use Rattle.semantics.specs.Terms.{Term, local}
+use Rattle.semantics.specs.Interpretations.{graded, atElements, gradeAt}
+use Rattle.semantics.specs.Books.{nameAbove, roleAbove}
+use Rattle.sections.specs.Terms.{termsOf, TermsRight}
+use Rattle.sheets.specs.Reading.{interpretation}
+use Rattle.grids.specs.Columns.{cellAt, HoldsTo}
+
+-- on N steps: the terms' section s, n rows of A name grades, and for each of R roles n rows of n links
+pub record Workable (s : List ℕ) (N n A R : ℕ) (names links : List ℕ) : Type 0 where
+  pub right : TermsRight s
+  pub few-terms : length s ≤ 192
+  pub few-elements : n ≤ 64
+  pub names-long : n * A ≤ length names
+  pub links-long : R * (n * n) ≤ length links
+  pub names-le : (k : ℕ) → getD names k 0 ≤ N
+  pub links-le : (k : ℕ) → getD links k 0 ≤ N
+  pub names-counted : highest nameAbove (termsOf s) ≤ A
+  pub roles-counted : highest roleAbove (termsOf s) ≤ R
+
+module _ (s : List ℕ) (N n A : ℕ) (names links : List ℕ) where
+  -- .. for some number of roles: the code looks at those that the terms name
+  abbrev pub Ready : Type 0
+  Ready = (R : ℕ) × Workable s N n A R names links
+
+  -- the columns hold the grades of the first k terms; wherever the individuals are, since no grade looks at them
+  abbrev pub WorkedTo : (k : ℕ) → List ℕ → Type 0
+  WorkedTo k v = (individuals : List ℕ) → HoldsTo (graded N (termsOf s)) (interpretation n A names links individuals) k v
+
+  -- .. and column k those at the first m elements
+  abbrev pub WorkedIn : (k m : ℕ) → List ℕ → Type 0
+  WorkedIn k m v =
+      (individuals : List ℕ) (e : ℕ) → e < m → cellAt v k e ≡ gradeAt (graded N (termsOf s)) (interpretation n A names links individuals) k e
+
+-- what the columns v give for a term, of number i, at element e: the table of document 01, with the children's grades read from v
+abbrev pub gradeFrom : (N n A : ℕ) (names links v : List ℕ) (i : ℕ) → Term → (e : ℕ) → ℕ
+gradeFrom N n A names links v i t e = local (atElements (graded N []) (interpretation n A names links [])) i t (cellAt v) e
+
+-- ---- quantified terms
+
+-- what a quantified term takes from n elements: through the row of its links, from the column of its child's grades
+abbrev pub takenOver : Quantifier → (N : ℕ) (row column : List ℕ) (n : ℕ) → ℕ
+takenOver q N row column n = over q N (λ f. through (zadeh N) q (getD row f 0) (getD column f 0)) n
+
+-- .. where role and child are r and x, at element e
+abbrev pub takenAt : Quantifier → (N n : ℕ) (links v : List ℕ) (r x e : ℕ) → ℕ
+takenAt q N n links v r x e = over q N (λ f. through (zadeh N) q (getD links (n * (n * r + e) + f) 0) (cellAt v x f)) n
+
+-- that row and that column are there
+pub record Reached (n : ℕ) (links v : List ℕ) (r x e : ℕ) : Type 0 where
+  pub few-elements : n ≤ 64
+  pub element : e < n
+  pub row-end : n * (n * r + e) + n ≤ length links
+  pub child : x < 64
+  pub room : 4096 ≤ length v

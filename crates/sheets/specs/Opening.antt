@@ -1,0 +1,35 @@
+-- What checking a sheet answers: the number of the first check that says no, or the sheet's shape. Document 01, "Working out a sheet, after 9".
+-- Assumes nothing.
+use mathlib.Core.Path.{_≡_}
+use mathlib.Core.Option.{Option, none, some}
+use mathlib.Core.List.{List, [], _∷_}
+use Prim.Native.Nat.{ℕ}
+use Rattle.chain.specs.Questions.{Question, ask, firstNo}
+use Rattle.sheets.specs.Layout.{shapeOf, HeadRight, headRight?, SheetLaidOut, sheetLaidOut?, EntriesRight, entriesRight?}
+use Rattle.sheets.specs.declared.Shape.{Shape}
+use Rattle.sheets.specs.declared.Sheet.{Sheet}
+use Rattle.sheets.specs.declared.Sheet.the-variants.{Refused, Right}
+
+-- of the sheet that stands in b by the shape p, for a book on N steps that has A names, R roles and I individuals
+abbrev pub sheetQuestions : List ℕ → Shape → (N A R I : ℕ) → List Question
+sheetQuestions b p N A R I = ask 13 (headRight? b p N A R I) ∷ ask 14 (sheetLaidOut? b p) ∷ ask 15 (entriesRight? b p N) ∷ []
+
+-- what those checks say yes to, and that p is the sheet's shape
+pub record SheetRight (b : List ℕ) (p : Shape) (N A R I : ℕ) : Type 0 where
+  pub shape-are : p ≡ shapeOf b
+  pub head-right : HeadRight b p N A R I
+  pub laid-out : SheetLaidOut b p
+  pub entries-right : EntriesRight b p N
+
+-- the answer, by the first no
+abbrev pub sheetBy : Shape → Option ℕ → Sheet
+sheetBy p none = Right p
+sheetBy p (some n) = Refused n
+
+unfoldable pub sheetOpened : List ℕ → (N A R I : ℕ) → Sheet
+sheetOpened b N A R I = sheetBy (shapeOf b) (firstNo (sheetQuestions b (shapeOf b) N A R I))
+
+-- the document's number for each answer
+abbrev pub sheetNumber : Sheet → Option ℕ
+sheetNumber (Refused n) = some n
+sheetNumber (Right p) = none

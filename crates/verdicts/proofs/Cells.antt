@@ -1,0 +1,60 @@
+-- Laws of the verdict by bytes: it is the verdict on the book and the sheet that the bytes stand for, and the checks on these establish what it
+-- asks.
+-- Assumes nothing.
+use mathlib.Core.Path.{_≡_}
+use mathlib.Core.Logic.{dite}
+use mathlib.Core.List.{List}
+use Prim.Native.Nat.{ℕ, _*_, _≤_, _<_, max}
+use native.Mathlib.Nat.{mul-le-mul-right}
+use native.Mathlib.Decide.{decLt}
+use native.Mathlib.Omega.{arith}
+use lib.ListN.{length, List·getD-eq-default}
+use Rattle.chain.specs.Lists.{highest}
+use Rattle.chain.proofs.Lists.{highest-at}
+use Rattle.semantics.specs.Interpretations.{Grading, Interpretation, gradeAt}
+use Rattle.semantics.specs.Books.{Book, Valid, membershipIndividuals, linkIndividuals, linkRoles}
+use Rattle.sections.specs.Rules.{rulesOf, RulesRight}
+use Rattle.sections.specs.Claims.{claimCount, membershipAt, membershipsOf, MembershipsRight, linkAt, linksOf}
+use Rattle.sheets.specs.Reading.{interpretation}
+use Rattle.sheets.specs.Working.{linkVerdict, linksVerdict, verdictBy, verdictOf}
+use Rattle.sheets.proofs.Working.{verdict-same}
+use Rattle.grids.specs.Columns.{cellAt, HoldsGrades}
+use Rattle.verdicts.specs.Cells.{verdictIn, elementIn, Seated, Covered}
+
+-- ---- the verdict on the book
+
+-- beyond its end a list of elements gives element 0, which there is
+seated-all : (n : ℕ) (js : List ℕ) → 0 < n → Seated n js → (j : ℕ) → elementIn js j < n
+seated-all n js z h j = dite (decLt j (length js)) (h j) (λ l. rw (List·getD-eq-default js 0 {n = j} (omega arith)) z)
+
+module _ (G : Grading) (rs ms qs : List ℕ) (n A : ℕ) (ns ls js v : List ℕ) where
+  abbrev book : Book
+  book = record { grading = G; rules = rulesOf rs; memberships = membershipsOf ms; links = linksOf qs }
+
+  abbrev whole : Interpretation
+  whole = interpretation n A ns ls js
+
+  -- where the columns hold the grades; no rule or claim asks for the sheet's names besides
+  pub verdict-in : Valid book → 0 < n → Seated n js → HoldsGrades G whole v → verdictIn rs ms qs v n ls js ≡ verdictOf book whole
+  unfolding verdictIn verdictOf verdictBy linksVerdict linkVerdict
+  verdict-in ok z s h =
+      verdict-same (cellAt v) (gradeAt G whole) whole (length (G .terms)) h (seated-all n js z s) (rulesOf rs) (membershipsOf ms) (linksOf qs)
+      (ok .rules-in) (ok .terms-in)
+
+-- ---- what the checks establish: on rules and claims against t terms, and on a sheet with as many individuals and roles as the book counts
+
+module _ (rs ms qs v : List ℕ) (n : ℕ) (ls js : List ℕ) (N t R : ℕ) where
+  pub covered : n ≤ 64 → Seated n js → RulesRight rs t → MembershipsRight ms N t → 64 * t ≤ length v
+      → max (highest membershipIndividuals (membershipsOf ms)) (highest linkIndividuals (linksOf qs)) ≤ length js
+      → highest linkRoles (linksOf qs) ≤ R → R * (n * n) ≤ length ls → Covered rs ms qs v n ls js
+  unfolding membershipsOf linksOf
+  covered h s r m c i l w = record {
+    size = h;
+    seated = s;
+    rules-right = λ k b. let a = r k b in (omega arith, omega arith);
+    memberships-covered = λ k b. let a = m k b in (omega arith, omega (arith, highest-at membershipIndividuals (membershipAt ms) (claimCount ms) k b));
+    links-covered = λ k b. (
+      omega (arith, mul-le-mul-right {m = linkRoles (linkAt qs k)} {n = R} (n * n) (omega (arith, highest-at linkRoles (linkAt qs) (claimCount qs) k b))),
+      omega (arith, highest-at linkIndividuals (linkAt qs) (claimCount qs) k b),
+    );
+  }

@@ -1,0 +1,104 @@
+-- Laws for the functions: where a link stands; one rule or claim judged by numbers that are read from the cells; the first that is broken of a
+-- section's records.
+-- Assumes nothing.
+use mathlib.Core.Path.{_≡_, refl, sym, ap, ap₂, subst, _∙_}
+use mathlib.Core.List.{List}
+use Prim.Native.Nat.{ℕ, zero, suc, _+_, _*_, _≤_, _<_}
+use native.Mathlib.Nat.{mul-comm, mul-assoc, mul-add, mul-one, mul-le-mul, mul-le-mul-left}
+use native.Mathlib.Decide.{decLe}
+use native.Mathlib.Omega.{arith}
+use Rattle.semantics.specs.Interpretations.{Interpretation}
+use Rattle.semantics.specs.Books.{Rule, at-least, at-most, Claimed, claimed?, MembershipClaim, LinkClaim}
+use Rattle.sections.specs.Rules.{ruleCount, ruleAt, rulesOf}
+use Rattle.sections.specs.Claims.{claimCount, senseOf, membershipAt, membershipsOf, linkAt, linksOf}
+use Rattle.sheets.specs.Working.{judge, firstBroken, ruleVerdictAt, ruleVerdict, membershipVerdict, linkVerdict, rulesVerdict, membershipsVerdict, linksVerdict}
+use Rattle.sheets.specs.declared.Verdict.{Verdict}
+use Rattle.sheets.specs.declared.Verdict.the-variants.{Meets, BreaksRule, BreaksMembership, BreaksLink}
+use Rattle.sheets.proofs.Working.{judge-yes, judge-no, first-table}
+
+-- ---- where a link stands
+
+-- place f of row x, of m rows of n
+row-lt : (n m x f : ℕ) → x < m → f < n → n * x + f < n * m
+row-lt n m x f h l = omega (arith, mul-add n x 1, mul-one n, mul-le-mul-left {m = x + 1} {n = m} n (omega arith))
+
+-- role r, read as k, has its n rows of n among the m links
+module _ (n r e f m k : ℕ) (h : (n ≤ 64) × (e < n) × (f < n) × ((r + 1) * (n * n) ≤ m)) (g : (k ≡ r) × (k < 256)) where
+  pub link-lt : n * (n * k + e) + f < m
+  link-lt =
+      let a : n * r + e < n * (r + 1) = row-lt n (r + 1) r e (omega arith) (h .1) in
+      let b : n * (n * r + e) + f < n * (n * (r + 1)) = row-lt n (n * (r + 1)) (n * r + e) f a (h .2) in
+      let q : n * (n * (r + 1)) ≡ (r + 1) * (n * n) = sym (mul-assoc n n (r + 1)) ∙ mul-comm (n * n) (r + 1) in
+      rw (g .0) (omega arith)
+
+  -- the products do not wrap
+  pub link-small : (n * k ≤ 16384) × (n * (n * k + e) ≤ 1052672)
+  link-small =
+      let a : n * k ≤ 64 * 256 = mul-le-mul {n₁ = n} {m₁ = k} {n₂ = 64} {m₂ = 256} (h .0) (omega arith) in
+      (a, mul-le-mul {n₁ = n} {m₁ = n * k + e} {n₂ = 64} {m₂ = 16448} (h .0) (omega arith))
+
+-- ---- one rule or claim
+
+pub sense-least : (k : ℕ) → k ≡ 0 → senseOf k ≡ at-least
+sense-least k e = ap senseOf e
+
+pub sense-most : (k : ℕ) → ¬ (k ≡ 0) → senseOf k ≡ at-most
+sense-most zero n = absurd (n refl)
+sense-most (suc zero) n = refl
+sense-most (suc (suc k)) n = refl
+
+-- a fact about y, found by the number x that equals it
+module _ {P : ℕ → Type 0} (p : (x : ℕ) → Dec (P x)) (v : Verdict) {x y : ℕ} (e : x ≡ y) where
+  judged-met : P x → Meets ≡ judge (p y) v
+  judged-met h = sym (judge-yes (p y) v (subst P e h))
+
+  judged-unmet : ¬ P x → v ≡ judge (p y) v
+  judged-unmet n = sym (judge-no (p y) v (λ h. n (subst P (sym e) h)))
+
+module _ (grade : (term element : ℕ) → ℕ) (k : ℕ) where
+  -- x and y are the grades of the two terms at e
+  module _ (q : Rule) (e x y : ℕ) (l : x ≡ grade (q .left) e) (r : y ≡ grade (q .right) e) where
+    pub rule-met : x ≤ y → ruleVerdictAt grade k q e ≡ Meets
+    unfolding ruleVerdictAt
+    rule-met h = judge-yes _ _ (omega arith)
+
+    pub rule-unmet : y < x → BreaksRule k e ≡ ruleVerdictAt grade k q e
+    unfolding ruleVerdictAt
+    rule-unmet h = sym (judge-no _ _ (λ m. omega arith))
+
+  -- e is the individual's element, and x the term's grade there
+  module _ (element : (individual : ℕ) → ℕ) (q : MembershipClaim) (e x : ℕ) (i : e ≡ element (q .individual)) (g : x ≡ grade (q .term) e) where
+    pub membership-met : Claimed (q .sense) (q .grade) x → Meets ≡ membershipVerdict grade element k q
+    unfolding membershipVerdict
+    membership-met = judged-met (claimed? (q .sense) (q .grade)) _ (g ∙ ap (grade (q .term)) i)
+
+    pub membership-unmet : ¬ Claimed (q .sense) (q .grade) x → BreaksMembership k ≡ membershipVerdict grade element k q
+    unfolding membershipVerdict
+    membership-unmet = judged-unmet (claimed? (q .sense) (q .grade)) _ (g ∙ ap (grade (q .term)) i)
+
+-- e and f are the individuals' elements, and x the link between them
+module _ (I : Interpretation) (k : ℕ) (q : LinkClaim) (e f x : ℕ) (i : e ≡ I .element (q .source)) (j : f ≡ I .element (q .target))
+    (g : x ≡ I .links (q .role) e f) where
+  pub link-met : q .grade ≤ x → Meets ≡ linkVerdict I k q
+  unfolding linkVerdict
+  link-met = judged-met (decLe (q .grade)) _ (g ∙ ap₂ (I .links (q .role)) i j)
+
+  pub link-unmet : ¬ (q .grade ≤ x) → BreaksLink k ≡ linkVerdict I k q
+  unfolding linkVerdict
+  link-unmet = judged-unmet (decLe (q .grade)) _ (g ∙ ap₂ (I .links (q .role)) i j)
+
+-- ---- a section's records, as a loop goes through them
+
+module _ (grade : (term element : ℕ) → ℕ) (s : List ℕ) where
+  pub rules-first : (n : ℕ) → rulesVerdict grade n (rulesOf s) ≡ firstBroken (λ k. ruleVerdict grade n k (ruleAt s k)) (ruleCount s)
+  unfolding rulesVerdict rulesOf
+  rules-first n = first-table (ruleVerdict grade n) (ruleAt s) _ (ruleCount s)
+
+  pub memberships-first : (element : (individual : ℕ) → ℕ)
+      → membershipsVerdict grade element (membershipsOf s) ≡ firstBroken (λ k. membershipVerdict grade element k (membershipAt s k)) (claimCount s)
+  unfolding membershipsVerdict membershipsOf
+  memberships-first element = first-table (membershipVerdict grade element) (membershipAt s) _ (claimCount s)
+
+pub links-first : (I : Interpretation) (s : List ℕ) → linksVerdict I (linksOf s) ≡ firstBroken (λ k. linkVerdict I k (linkAt s k)) (claimCount s)
+unfolding linksVerdict linksOf
+links-first I s = first-table (linkVerdict I) (linkAt s) _ (claimCount s)

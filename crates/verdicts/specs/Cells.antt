@@ -1,0 +1,56 @@
+-- The verdict by the bytes that code has: a book's sections, a sheet's links and individuals, and columns of grades; and what these must cover.
+-- Assumes nothing.
+use mathlib.Core.List.{List, []}
+use Prim.Native.Nat.{ℕ, _*_, _/_, _≤_, _<_}
+use lib.ListN.{length}
+use Rattle.semantics.specs.Interpretations.{Interpretation}
+use Rattle.semantics.specs.Books.{MembershipClaim, LinkClaim, membershipIndividuals, linkIndividuals, linkRoles}
+use Rattle.sections.specs.Rules.{rulesOf, RulesRight}
+use Rattle.sections.specs.Claims.{claimCount, membershipAt, membershipsOf, linkAt, linksOf}
+use Rattle.sheets.specs.Reading.{interpretation}
+use Rattle.sheets.specs.Working.{verdictBy}
+use Rattle.sheets.specs.declared.Verdict.{Verdict}
+use Rattle.grids.specs.Columns.{cellAt}
+
+-- the sheet without its names, whose grades stand in the columns already
+abbrev pub sheet : (n : ℕ) (links individuals : List ℕ) → Interpretation
+sheet n ls js = interpretation n 0 [] ls js
+
+abbrev pub elementIn : List ℕ → (individual : ℕ) → ℕ
+elementIn js = sheet 0 [] js .element
+
+abbrev pub linkIn : (n : ℕ) → List ℕ → (role source target : ℕ) → ℕ
+linkIn n ls = sheet n ls [] .links
+
+unfoldable pub verdictIn : (rules memberships claims values : List ℕ) (n : ℕ) (links individuals : List ℕ) → Verdict
+verdictIn rs ms qs v n ls js = verdictBy (cellAt v) (sheet n ls js) (rulesOf rs) (membershipsOf ms) (linksOf qs)
+
+-- ---- what there must be
+
+abbrev pub columnCount : List ℕ → ℕ
+columnCount v = length v / 64
+
+-- every individual sits at one of n elements
+abbrev pub Seated : (n : ℕ) → List ℕ → Type 0
+Seated n js = (j : ℕ) → j < length js → elementIn js j < n
+
+-- a column for a membership claim's term, and an element for its individual
+abbrev pub MembershipCovered : (v js : List ℕ) → MembershipClaim → Type 0
+MembershipCovered v js q = (q .term < columnCount v) × (membershipIndividuals q ≤ length js)
+
+-- n rows of n for a link claim's role, and elements for its individuals
+abbrev pub LinkCovered : (n : ℕ) (ls js : List ℕ) → LinkClaim → Type 0
+LinkCovered n ls js q = (linkRoles q * (n * n) ≤ length ls) × (linkIndividuals q ≤ length js)
+
+abbrev pub MembershipsCovered : (v js ms : List ℕ) → Type 0
+MembershipsCovered v js ms = (i : ℕ) → i < claimCount ms → MembershipCovered v js (membershipAt ms i)
+
+abbrev pub LinksCovered : (n : ℕ) (ls js qs : List ℕ) → Type 0
+LinksCovered n ls js qs = (i : ℕ) → i < claimCount qs → LinkCovered n ls js (linkAt qs i)
+
+pub record Covered (rs ms qs v : List ℕ) (n : ℕ) (ls js : List ℕ) : Type 0 where
+  pub size : n ≤ 64
+  pub seated : Seated n js
+  pub rules-right : RulesRight rs (columnCount v)
+  pub memberships-covered : MembershipsCovered v js ms
+  pub links-covered : LinksCovered n ls js qs

@@ -1,0 +1,188 @@
+// Whether a sheet meets a book's rules and claims, and if not the first that is broken.
+ghost use mathlib.Core.Path.{_≡_};
+ghost use Prim.Native.Nat.{_+_, _*_, _<_, _≤_};
+ghost use lib.ListN.{length};
+ghost use Rattle.chain.specs.Decisions.{Tells};
+ghost use Rattle.semantics.specs.Books.{Claimed};
+ghost use Rattle.sections.specs.Rules.{ruleCount, ruleAt, rulesOf, RuleRight, RulesRight};
+ghost use Rattle.sections.specs.Claims.{claimCount, senseOf, membershipAt, membershipsOf, linkAt, linksOf};
+ghost use Rattle.sheets.specs.declared.Verdict.the-variants.{Meets};
+ghost use Rattle.sheets.specs.Working.{orElse, ruleVerdict, membershipVerdict, linkVerdict, rulesVerdict, membershipsVerdict, linksVerdict};
+ghost use Rattle.grids.specs.Columns.{cellAt};
+ghost use Rattle.verdicts.specs.Cells.{sheet, elementIn, linkIn, verdictIn, columnCount, Seated, MembershipCovered, LinkCovered, MembershipsCovered, LinksCovered, Covered};
+use sections::wide;
+use sheets::Verdict;
+
+// ---- what stands in the columns and on the sheet
+
+// The grade of a term at element `e`.
+fn cell(values: &[u8], term: u8, e: usize) -> u8
+    requires { ⌜ (term < columnCount (now values)) × (e < 64) ⌝ }
+    ensures { λ r. ⌜ r ≡ cellAt (now (values .entry)) term e ⌝ }
+{
+    values[64 * wide(term) + e]
+}
+
+// The element of an individual.
+fn element(individuals: &[u8], j: u8, n: usize) -> usize
+    requires { ⌜ (j < length (now individuals)) × Seated n (now individuals) ⌝ }
+    ensures { λ r. ⌜ (r ≡ elementIn (now (individuals .entry)) j) × (r < n) ⌝ }
+{
+    wide(individuals[wide(j)])
+}
+
+// The grade of a role's link between two of `n` elements.
+fn link(links: &[u8], n: usize, role: u8, e: usize, f: usize) -> u8
+    requires { ⌜ (n ≤ 64) × (e < n) × (f < n) × ((role + 1) * (n * n) ≤ length (now links)) ⌝ }
+    ensures { λ r. ⌜ r ≡ linkIn n (now (links .entry)) role e f ⌝ }
+{
+    links[n * (n * wide(role) + e) + f]
+}
+
+fn met(v: Verdict) -> bool
+    ensures { λ r. ⌜ Tells r (v ≡ Meets) ⌝ }
+{
+    if let Verdict::Meets = v { true } else { false }
+}
+
+// ---- rules
+
+// Is rule `i` met? If not, the lowest element at which it is broken.
+fn rule_verdict(rules: &[u8], i: usize, values: &[u8], n: usize) -> Verdict
+    requires { ⌜ (i < ruleCount (now rules)) × RuleRight (now rules) (columnCount (now values)) i × (n ≤ 64) ⌝ }
+    ensures { λ r. ⌜ r ≡ ruleVerdict (cellAt (now (values .entry))) n i (ruleAt (now (rules .entry)) i) ⌝ }
+{
+    let left = rules[2 * i];
+    let right = rules[2 * i + 1];
+    let mut e = 0;
+    while e < n {
+        if cell(values, right, e) < cell(values, left, e) {
+            return Verdict::BreaksRule(i, e);
+        }
+        e += 1;
+    }
+    Verdict::Meets
+}
+
+fn rules_verdict(rules: &[u8], values: &[u8], n: usize) -> Verdict
+    requires { ⌜ RulesRight (now rules) (columnCount (now values)) × (n ≤ 64) ⌝ }
+    ensures { λ r. ⌜ r ≡ rulesVerdict (cellAt (now (values .entry))) n (rulesOf (now (rules .entry))) ⌝ }
+{
+    let count = rules.len() / 2;
+    let mut i = 0;
+    while i < count {
+        let v = rule_verdict(rules, i, values, n);
+        if !met(v) {
+            return v;
+        }
+        i += 1;
+    }
+    Verdict::Meets
+}
+
+// ---- membership claims
+
+// Is the grade at least, or at most, the one claimed?
+fn claimed(sense: u8, grade: u8, actual: u8) -> bool
+    ensures { λ r. ⌜ Tells r (Claimed (senseOf sense) grade actual) ⌝ }
+{
+    if sense == 0 {
+        return grade <= actual;
+    }
+    actual <= grade
+}
+
+fn membership_verdict(
+    memberships: &[u8],
+    i: usize,
+    values: &[u8],
+    n: usize,
+    individuals: &[u8],
+) -> Verdict
+    requires { ⌜ (i < claimCount (now memberships)) × MembershipCovered (now values) (now individuals) (membershipAt (now memberships) i) ⌝ }
+    requires { ⌜ (n ≤ 64) × Seated n (now individuals) ⌝ }
+    ensures { λ r. ⌜ r ≡ membershipVerdict (cellAt (now (values .entry))) (elementIn (now (individuals .entry))) i (membershipAt (now (memberships .entry)) i) ⌝ }
+{
+    let e = element(individuals, memberships[4 * i], n);
+    let actual = cell(values, memberships[4 * i + 1], e);
+    if claimed(memberships[4 * i + 2], memberships[4 * i + 3], actual) {
+        return Verdict::Meets;
+    }
+    Verdict::BreaksMembership(i)
+}
+
+fn memberships_verdict(memberships: &[u8], values: &[u8], n: usize, individuals: &[u8]) -> Verdict
+    requires { ⌜ MembershipsCovered (now values) (now individuals) (now memberships) ⌝ }
+    requires { ⌜ (n ≤ 64) × Seated n (now individuals) ⌝ }
+    ensures { λ r. ⌜ r ≡ membershipsVerdict (cellAt (now (values .entry))) (elementIn (now (individuals .entry))) (membershipsOf (now (memberships .entry))) ⌝ }
+{
+    let count = memberships.len() / 4;
+    let mut i = 0;
+    while i < count {
+        let v = membership_verdict(memberships, i, values, n, individuals);
+        if !met(v) {
+            return v;
+        }
+        i += 1;
+    }
+    Verdict::Meets
+}
+
+// ---- link claims
+
+fn link_verdict(claims: &[u8], i: usize, n: usize, links: &[u8], individuals: &[u8]) -> Verdict
+    requires { ⌜ (i < claimCount (now claims)) × LinkCovered n (now links) (now individuals) (linkAt (now claims) i) ⌝ }
+    requires { ⌜ (n ≤ 64) × Seated n (now individuals) ⌝ }
+    ensures { λ r. ⌜ r ≡ linkVerdict (sheet n (now (links .entry)) (now (individuals .entry))) i (linkAt (now (claims .entry)) i) ⌝ }
+{
+    let e = element(individuals, claims[4 * i + 1], n);
+    let f = element(individuals, claims[4 * i + 2], n);
+    if claims[4 * i + 3] <= link(links, n, claims[4 * i], e, f) {
+        return Verdict::Meets;
+    }
+    Verdict::BreaksLink(i)
+}
+
+fn links_verdict(claims: &[u8], n: usize, links: &[u8], individuals: &[u8]) -> Verdict
+    requires { ⌜ LinksCovered n (now links) (now individuals) (now claims) ⌝ }
+    requires { ⌜ (n ≤ 64) × Seated n (now individuals) ⌝ }
+    ensures { λ r. ⌜ r ≡ linksVerdict (sheet n (now (links .entry)) (now (individuals .entry))) (linksOf (now (claims .entry))) ⌝ }
+{
+    let count = claims.len() / 4;
+    let mut i = 0;
+    while i < count {
+        let v = link_verdict(claims, i, n, links, individuals);
+        if !met(v) {
+            return v;
+        }
+        i += 1;
+    }
+    Verdict::Meets
+}
+
+// ---- all of them
+
+fn or_else(first: Verdict, second: Verdict) -> Verdict
+    ensures { λ r. ⌜ r ≡ orElse first second ⌝ }
+{
+    if met(first) { second } else { first }
+}
+
+// The first rule broken, else the first membership claim, else the first link claim.
+pub fn verdict(
+    rules: &[u8],
+    memberships: &[u8],
+    claims: &[u8],
+    values: &[u8],
+    n: usize,
+    links: &[u8],
+    individuals: &[u8],
+) -> Verdict
+    requires { ⌜ Covered (now rules) (now memberships) (now claims) (now values) n (now links) (now individuals) ⌝ }
+    ensures { λ r. ⌜ r ≡ verdictIn (now (rules .entry)) (now (memberships .entry)) (now (claims .entry)) (now (values .entry)) n (now (links .entry)) (now (individuals .entry)) ⌝ }
+{
+    let on_rules = rules_verdict(rules, values, n);
+    let on_memberships = memberships_verdict(memberships, values, n, individuals);
+    let on_links = links_verdict(claims, n, links, individuals);
+    or_else(on_rules, or_else(on_memberships, on_links))
+}
