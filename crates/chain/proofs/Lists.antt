@@ -120,13 +120,6 @@ module _ {A : Type 0} where
   pub table-filled : (f : ℕ → A) (n : ℕ) (d l : List A) → l ≡ table f n ++ drop n d → n ≡ length d → l ≡ table f (length d)
   table-filled f n d l e h = e ∙ rw (h, drop-length, append-nil)
 
-  pub highest-le : (f : A → ℕ) (g : ℕ → A) (n m : ℕ) → ((i : ℕ) → i < n → f (g i) ≤ m) → highest f (table g n) ≤ m
-  unfolding highest table
-  highest-le f g zero m h = omega arith
-  highest-le f g (suc n) m h =
-      let rest = highest-le f (λ i. g (suc i)) n m (λ i l. h (suc i) (omega arith)) in
-      omega (arith, h zero (omega arith))
-
   pub highest-at : (f : A → ℕ) (g : ℕ → A) (n i : ℕ) → i < n → f (g i) ≤ highest f (table g n)
   unfolding highest table
   highest-at f g zero i h = absurd (not-suc-le-zero h)

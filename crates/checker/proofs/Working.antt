@@ -4,37 +4,40 @@
 use mathlib.Core.Path.{_≡_, sym, ap, ap₂, subst, _∙_}
 use mathlib.Core.Option.{Option, none, some}
 use mathlib.Core.List.{List, [], _++_}
-use Prim.Native.Nat.{ℕ, _*_, _≤_, _<_}
+use Prim.Native.Nat.{ℕ, _*_, _≤_, max}
 use native.Mathlib.Decide.{decLe}
 use native.Mathlib.Omega.{arith}
-use lib.ListN.{length, drop}
+use native.Mathlib.Nat.{le-of-eq}
+use lib.ListN.{length, drop, replicate, length-replicate}
+use Rattle.chain.specs.Lists.{highest}
 use Rattle.chain.specs.Questions.{firstNo}
 use Rattle.chain.proofs.Questions.{first-empty, first-yes, first-no, first-some-append, first-none-append}
 use Rattle.semantics.specs.Interpretations.{Grading, Interpretation, graded}
-use Rattle.semantics.specs.Books.{Book}
+use Rattle.semantics.specs.Books.{Book, nameAbove, roleAbove, linkRoles, membershipIndividuals, linkIndividuals, nameCount, roleCount, individuals}
 use Rattle.sections.specs.Terms.{termsOf}
+use Rattle.sections.specs.Claims.{membershipsOf, linksOf}
 use Rattle.sections.proofs.Terms.{length-terms}
-use Rattle.counts.proofs.Counts.{names-few}
 use Rattle.book.specs.Layout.{termBytes, ruleBytes, membershipBytes, linkBytes, termsIn}
-use Rattle.book.specs.Reading.{bookAt, bookOf}
+use Rattle.book.specs.Reading.{bookOf}
 use Rattle.book.specs.Opening.{bookQuestions, Accepts, Right, openedOf}
 use Rattle.book.specs.declared.Sections.{Sections}
 use Rattle.book.specs.declared.Opened.the-variants.{Refused as Closed}
 use Rattle.book.proofs.Opening.{opened-refused, right-accepts}
 use Rattle.book.proofs.Reading.{right-book, right-terms, right-few, right-short, right-length, right-counts, right-valid}
-use Rattle.sheets.specs.Layout.{EntriesRight, nameBytes, linkBytes as sheetLinks, individualBytes}
-use Rattle.sheets.specs.Reading.{interpretation, sheetAt, sheetOf}
+use Rattle.sheets.specs.Layout.{shapeOf, EntriesRight, nameBytes, linkBytes as sheetLinks, individualBytes}
+use Rattle.sheets.specs.Reading.{sheetAt, sheetOf}
 use Rattle.sheets.specs.Grids.{gridOf}
+use Rattle.sheets.specs.Opening.{sheetQuestions, SheetRight}
 use Rattle.sheets.specs.Working.{verdictOf}
 use Rattle.sheets.specs.declared.Shape.{Shape}
 use Rattle.sheets.proofs.Opening.{right-none, length-names, length-links, length-individuals}
 use Rattle.sheets.proofs.Reading.{everywhere, sheet-is}
-use Rattle.grids.specs.Columns.{HoldsGrades, rowsOf}
+use Rattle.grids.specs.Columns.{rowsOf}
 use Rattle.grids.specs.Workable.{Workable}
 use Rattle.grids.proofs.Columns.{rows-grid}
 use Rattle.verdicts.specs.Cells.{verdictIn, Covered}
 use Rattle.verdicts.proofs.Cells.{verdict-in, covered}
-use Rattle.checker.specs.Working.{gridSize, bookSheetQuestions, SheetFits, workQuestions, worked, workedOf, gridBy, gridAfter}
+use Rattle.checker.specs.Working.{Filled, gridSize, bookSheetQuestions, SheetFits, workQuestions, worked, workedOf, gridBy, gridAfter}
 use Rattle.checker.specs.declared.Worked.the-variants.{Refused, Says}
 
 -- ---- the first no
@@ -99,7 +102,6 @@ module _ (b t : List ℕ) (s : Sections) (ok : Right b s) (p : Shape) (fits : Sh
         right = ok .terms-right;
         few-terms = right-short b s ok;
         few-elements = fits .head-right .1 .1 .1 .1 .0;
-        few-names = omega (arith, names-few (termBytes b s) (ok .terms-right), k .1, fits .head-right .1 .1 .1 .1 .1 .0);
         names-long = omega (arith, length-names t p _ _ _ _ fits);
         links-long = omega (arith, length-links t p _ _ _ _ fits);
         names-le = everywhere (λ g. g ≤ s .steps) (nameBytes t p) (omega arith) (entries .0);
@@ -119,7 +121,7 @@ module _ (b t : List ℕ) (s : Sections) (ok : Right b s) (p : Shape) (fits : Sh
       (omega (arith, k .2, fits .head-right .1 .1 .1 .1 .1 .1 .0))
       (omega (arith, length-links t p _ _ _ _ fits))
 
-  module _ (v : List ℕ) (holds : (js : List ℕ) → HoldsGrades G (interpretation (p .elements) (p .names) (nameBytes t p) (sheetLinks t p) js) v) where
+  module _ (v : List ℕ) (holds : Filled b s t p v) where
     pub fits-verdict : verdictIn (ruleBytes b s) (membershipBytes b s) (linkBytes b s) v (p .elements) (sheetLinks t p) (individualBytes t p)
         ≡ verdictOf (bookOf b) (sheetOf t)
     fits-verdict =
@@ -132,3 +134,36 @@ module _ (b t : List ℕ) (s : Sections) (ok : Right b s) (p : Shape) (fits : Sh
         ap (λ (n : ℕ). rowsOf v n (p .elements)) (sym (length-terms (termBytes b s) ∙ right-terms b s ok))
         ∙ rows-grid G (sheetAt t p) v (holds (individualBytes t p))
         ∙ ap₂ (λ (B : Book) (I : Interpretation). gridOf (B .grading) I) (right-book b s ok) (sheet-is t p _ _ _ _ fits)
+
+-- ---- asked by the counts that code made
+
+module _ (b t : List ℕ) (s : Sections) (ok : Right b s) where
+  abbrev Names : ℕ
+  Names = highest nameAbove (termsOf (termBytes b s))
+
+  abbrev Roles : ℕ
+  Roles = max (highest roleAbove (termsOf (termBytes b s))) (highest linkRoles (linksOf (linkBytes b s)))
+
+  abbrev Individuals : ℕ
+  Individuals = max (highest membershipIndividuals (membershipsOf (membershipBytes b s))) (highest linkIndividuals (linksOf (linkBytes b s)))
+
+  -- what is asked with the book's N, A, R and I is asked with those
+  by-counts : (P : (N A R I : ℕ) → Type 0) (A R I : ℕ) → A ≡ Names → R ≡ Roles → I ≡ Individuals → P (s .steps) A R I
+      → P (bookOf b .grading .steps) (nameCount (bookOf b)) (roleCount (bookOf b)) (individuals (bookOf b))
+  by-counts P A R I a r i h =
+      let B = bookOf b in
+      let k = right-counts b s ok in
+      subst (λ (x : ℕ). P x (nameCount B) (roleCount B) (individuals B)) (sym (k .0))
+      (subst (λ (x : ℕ). P (s .steps) x (roleCount B) (individuals B)) (a ∙ sym (k .1))
+      (subst (λ (x : ℕ). P (s .steps) A x (individuals B)) (r ∙ sym (k .2)) (subst (λ (x : ℕ). P (s .steps) A R x) (i ∙ sym (k .3)) h)))
+
+  pub sheet-fits : (p : Shape) (A R I : ℕ) → A ≡ Names → R ≡ Roles → I ≡ Individuals → SheetRight t p (s .steps) A R I → SheetFits b t p
+  sheet-fits p = by-counts (SheetRight t p)
+
+  pub sheet-asked : (n A R I : ℕ) → A ≡ Names → R ≡ Roles → I ≡ Individuals
+      → firstNo (sheetQuestions t (shapeOf t) (s .steps) A R I) ≡ some n → firstNo (bookSheetQuestions b t) ≡ some n
+  sheet-asked n = by-counts (λ N A R I. firstNo (sheetQuestions t (shapeOf t) N A R I) ≡ some n)
+
+-- a local array of k zeros is k long, whatever k
+pub zeros-long : (k : ℕ) → k ≤ length (replicate {A = ℕ} k 0)
+zeros-long k = le-of-eq (sym (length-replicate k 0))

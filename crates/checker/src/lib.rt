@@ -10,7 +10,7 @@ ghost use Rattle.sheets.specs.Reading.{sheetOf};
 ghost use Rattle.sheets.specs.Grids.{gridOf};
 ghost use Rattle.sheets.specs.Working.{verdictOf};
 ghost use Rattle.checker.specs.Asking.{gradeAnswer, linkAnswer};
-ghost use Rattle.checker.specs.Working.{SheetFits, gridSize, workedOf, gridAfter};
+ghost use Rattle.checker.specs.Working.{SheetFits, Filled, gridSize, workedOf, gridAfter};
 use book::Counted;
 use book::Opened;
 use book::Sections;
@@ -111,7 +111,56 @@ pub enum Worked {
     Says(Verdict),
 }
 
-// On a sheet that fits an accepted book, with room in the grid: `values` is where the grades are worked out.
+// The grades of all terms at all elements, into the columns `values`.
+fn fill_values(b: &[u8], s: Sections, sheet: &[u8], p: Shape, values: &mut [u8])
+    requires { ⌜ Right (now b) s ⌝ }
+    requires { ⌜ SheetFits (now b) (now sheet) p ⌝ }
+    requires { ⌜ 4096 ≤ length (now values) ⌝ }
+    ensures { λ r. ⌜ Filled (now (b .entry)) s (now (sheet .entry)) p (now (values .exit)) ⌝ }
+{
+    let terms = s.terms;
+    let rules = s.rules;
+    let links = sheets::links_at(p);
+    let individuals = sheets::individuals_at(p);
+    grids::work_out(
+        &b[terms..rules],
+        s.steps,
+        p.elements,
+        p.names,
+        p.roles,
+        &sheet[12..links],
+        &sheet[links..individuals],
+        values,
+    );
+}
+
+// The verdict, by the grades in the columns.
+fn verdict_by(b: &[u8], s: Sections, sheet: &[u8], p: Shape, values: &[u8]) -> Verdict
+    requires { ⌜ Right (now b) s ⌝ }
+    requires { ⌜ SheetFits (now b) (now sheet) p ⌝ }
+    requires { ⌜ 4096 ≤ length (now values) ⌝ }
+    requires { ⌜ Filled (now b) s (now sheet) p (now values) ⌝ }
+    ensures { λ r. ⌜ r ≡ verdictOf (bookOf (now (b .entry))) (sheetOf (now (sheet .entry))) ⌝ }
+{
+    let rules = s.rules;
+    let memberships = s.memberships;
+    let claims = s.links;
+    let end = s.end;
+    let links = sheets::links_at(p);
+    let individuals = sheets::individuals_at(p);
+    let last = sheets::end_at(p);
+    verdicts::verdict(
+        &b[rules..memberships],
+        &b[memberships..claims],
+        &b[claims..end],
+        values,
+        p.elements,
+        &sheet[links..individuals],
+        &sheet[individuals..last],
+    )
+}
+
+// On a sheet that fits an accepted book, with room in the grid.
 fn work_fitting(
     b: &[u8],
     s: Sections,
@@ -128,33 +177,9 @@ fn work_fitting(
 {
     let terms = s.terms;
     let rules = s.rules;
-    let memberships = s.memberships;
-    let claims = s.links;
-    let end = s.end;
-    let links = sheets::links_at(p);
-    let individuals = sheets::individuals_at(p);
-    let last = sheets::end_at(p);
-    let n = p.elements;
-    grids::work_out(
-        &b[terms..rules],
-        s.steps,
-        n,
-        p.names,
-        p.roles,
-        &sheet[12..links],
-        &sheet[links..individuals],
-        values,
-    );
-    grids::write_grid(values, (rules - terms) / 3, n, grid);
-    verdicts::verdict(
-        &b[rules..memberships],
-        &b[memberships..claims],
-        &b[claims..end],
-        values,
-        n,
-        &sheet[links..individuals],
-        &sheet[individuals..last],
-    )
+    fill_values(b, s, sheet, p, values);
+    grids::write_grid(values, (rules - terms) / 3, p.elements, grid);
+    verdict_by(b, s, sheet, p, values)
 }
 
 fn work_shaped(b: &[u8], s: Sections, sheet: &[u8], p: Shape, grid: &mut [u8]) -> Worked

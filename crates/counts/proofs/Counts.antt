@@ -2,20 +2,19 @@
 -- Assumes nothing.
 use mathlib.Core.Path.{_≡_, refl, sym, ap, subst, _∙_}
 use mathlib.Core.List.{List}
-use Prim.Native.Nat.{ℕ, suc, _+_, _*_, _^_, _≤_, _<_, max}
-use native.Mathlib.Omega.{arith}
+use Prim.Native.Nat.{ℕ, suc, _+_, _*_, _^_, _<_, max}
 use native.Mathlib.Nat.{add-zero}
 use native.Mathlib.Numerals.{add-one}
 use lib.ListN.{getD}
 use Rattle.chain.specs.Lists.{highest}
-use Rattle.chain.proofs.Lists.{highest-le, highest-same, highest-max}
-use Rattle.semantics.specs.Terms.{Term, name, not, and, or, some, all, top, bottom}
+use Rattle.chain.proofs.Lists.{highest-same, highest-max}
+use Rattle.semantics.specs.Terms.{Term}
 use Rattle.semantics.specs.Interpretations.{graded}
 use Rattle.semantics.specs.Books.{nameAbove, roleAbove, linkRoles, membershipIndividuals, linkIndividuals}
 use Rattle.semantics.specs.Candidates.{place, IsPlace, placesBefore, candidates}
 use Rattle.semantics.proofs.Interpretations.{graded-well-formed}
 use Rattle.semantics.proofs.Candidates.{placesBefore-place, placesBefore-other, candidates-count}
-use Rattle.sections.specs.Terms.{termOf, InRange, termCount, termAt, termsOf, TermsRight}
+use Rattle.sections.specs.Terms.{termOf, termCount, termAt, termsOf, TermsRight}
 use Rattle.counts.specs.Columns.{column}
 use Rattle.sections.specs.Claims.{linksOf, membershipsOf, linkAt, membershipAt, claimCount}
 use Rattle.sections.proofs.Terms.{by-kind, length-terms, term-at, terms-ordered, terms-apart}
@@ -53,21 +52,6 @@ module _ (s : List ℕ) where
   candidates-of ok N =
       ap (λ (n : ℕ). (N + 1) ^ placesBefore (termsOf s) n) (sym (length-terms s))
       ∙ sym (candidates-count (graded N (termsOf s)) (graded-well-formed N (termsOf s) (terms-ordered s ok)) (terms-apart s ok))
-
-  -- a name's number is below 16
-  pub names-few : TermsRight s → highest nameAbove (termsOf s) ≤ 16
-  unfolding termsOf
-  names-few ok = highest-le nameAbove (termAt s) (termCount s) 16 (λ i h. go i (termAt s i) (ok i h .0 .0))
-    where
-      go : (i : ℕ) (t : Term) → InRange i t → nameAbove t ≤ 16
-      go i (name a) h = h
-      go i (not c) h = omega arith
-      go i (and c d) h = omega arith
-      go i (or c d) h = omega arith
-      go i (some r c) h = omega arith
-      go i (all r c) h = omega arith
-      go i top h = omega arith
-      go i bottom h = omega arith
 
   -- ---- what the columns of a section say
 

@@ -1,0 +1,42 @@
+-- `checker::work_out` meets its contract. The book is opened once; a refusal is passed on and leaves the grid.
+-- Assumes nothing.
+use mathlib.Core.Path.{sym, _∙_}
+use lib.ListN.{length}
+use borrow.Author.Needs.{needs}
+use Rattle.book.proofs.Opening.{opened-accepted}
+use Rattle.checker.proofs.Working.{work-book, worked-refused, grid-refused}
+use Rattle.checker.proofs.work_out.Statement.{statement}
+use Rattle.checker.proofs.work_out.Tie as tie
+
+open-requires : tie.Need-open-requires
+open-requires c κs = search needs
+
+enum-known-n : tie.Need-enum-known-n
+enum-known-n c = search needs
+
+enum-known-s : tie.Need-enum-known-s
+enum-known-s c = search needs
+
+work-opened-requires : tie.Need-work-opened-requires
+work-opened-requires c κs = opened-accepted _ _ (sym (c .before .before .before .before .«open» .ensures) ∙ c .before .before .s .given .1)
+
+returns : tie.Need-returns
+returns c = let h = work-book (c .before .before .before .before .before .before .before .args .b .now) (c .before .before .before .before .before .before .before .args .sheet .now) (length (c .before .before .before .before .before .before .before .args .grid .now)) _ (sym (c .before .before .before .«open» .ensures) ∙ c .before .n .given .1) in (sym (worked-refused _ _ _ _ h), sym (grid-refused _ _ _ _ h))
+
+same-length : tie.Need-same-length
+same-length c = search needs
+
+returns-2 : tie.Need-returns-2
+returns-2 c = search needs
+
+pub work-out-spec : {M : Type 1} → statement M
+work-out-spec =
+    tie.close
+    (tie.spec
+    open-requires
+    enum-known-n
+    enum-known-s
+    work-opened-requires
+    returns
+    same-length
+    returns-2)
