@@ -1,0 +1,293 @@
+// Cases written by hand from document 01: what the book is made of and, after the arrow, the number of the first check that says no, or 0 and
+// the number of candidates.
+use crate::answers::Answer;
+use crate::books::blank;
+use crate::recipes::Recipe;
+use crate::recipes::run;
+use crate::tally::Tally;
+use crate::tally::begin;
+use crate::tally::expect;
+use crate::text;
+
+// A book in hexadecimal.
+fn written(t: Tally, book: &[u8], number: u8, candidates: u64) -> Tally {
+    let mut b = blank();
+    let length = text::write(&mut b, book);
+    expect(t, &b, length, Answer { number, candidates })
+}
+
+// Readings on file: the printed book, the same with N 1, no terms or claims.
+fn plain_readings(mut t: Tally) -> Tally {
+    t = written(
+        t,
+        b"01 02 00 12 00 02 00 18 00 02 00 1C 00 01 00 20 00 00 00 00 00 01 00 00 00 01 01 00 00 00 00 01",
+        0,
+        3,
+    );
+    t = written(
+        t,
+        b"01 01 00 12 00 02 00 18 00 02 00 1C 00 01 00 20 00 00 00 00 00 01 00 00 00 01 01 00 00 00 00 01",
+        0,
+        2,
+    );
+    written(
+        t,
+        b"01 01 00 12 00 00 00 12 00 00 00 12 00 00 00 12 00 00",
+        0,
+        1,
+    )
+}
+
+pub fn readings() -> Tally {
+    let mut t = plain_readings(begin());
+    // A not greater than "some r0 A", claim A at least 1
+    t = written(
+        t,
+        b"01 01 00 12 00 02 00 18 00 01 00 1A 00 01 00 1E 00 00 00 00 00 04 00 00 00 01 00 00 00 01",
+        0,
+        4,
+    );
+    // "some r0 bottom" at least 1
+    t = written(
+        t,
+        b"01 01 00 12 00 02 00 18 00 00 00 18 00 01 00 1C 00 00 07 00 00 04 00 00 00 01 00 01",
+        0,
+        2,
+    );
+    // N 2, link of 0 to itself at least 2, "all r0 A" at least 2, A at most 1
+    written(
+        t,
+        b"01 02 00 12 00 02 00 18 00 00 00 18 00 02 00 20 00 01 00 00 00 05 00 00 00 01 00 02 00 00 01 01 00 00 00 02",
+        0,
+        9,
+    )
+}
+
+// Check 1. Terms, rules, membership claims, link claims, length.
+pub fn lengths() -> Tally {
+    run(
+        begin(),
+        Recipe::Sized,
+        b"
+        0 0 0 0 0 -> 1;  0 0 0 0 1 -> 1
+        0 0 0 0 17 -> 1;  0 0 0 0 18 -> 0 1
+        1 1 1 1 17 -> 1;  1 1 1 1 31 -> 0 1
+        64 64 64 64 849 -> 5;  64 64 64 64 850 -> 0 1;  64 64 64 64 851 -> 1
+        ",
+    )
+}
+
+// Check 2. Byte, its value, length.
+pub fn editions() -> Tally {
+    let t = run(
+        begin(),
+        Recipe::Empty,
+        b"
+        0 0 18 -> 2;  0 1 18 -> 0 1;  0 2 18 -> 2;  0 255 18 -> 2
+        ",
+    );
+    run(
+        t,
+        Recipe::Sample,
+        b"
+        0 0 37 -> 2;  0 1 37 -> 0 9;  0 2 37 -> 2
+        ",
+    )
+}
+
+// Check 3. Byte, its value, length.
+pub fn steps() -> Tally {
+    let t = run(
+        begin(),
+        Recipe::Empty,
+        b"
+        1 0 18 -> 3;  1 1 18 -> 0 1
+        1 8 18 -> 0 1;  1 9 18 -> 3;  1 255 18 -> 3
+        ",
+    );
+    run(
+        t,
+        Recipe::Sample,
+        b"
+        1 0 37 -> 3;  1 1 37 -> 0 4
+        1 8 37 -> 0 81;  1 9 37 -> 3
+        ",
+    )
+}
+
+// Check 4. Terms, rules, membership claims, link claims, length; then byte, its value, length: the low and the high byte of each count.
+pub fn counts() -> Tally {
+    let t = run(
+        begin(),
+        Recipe::Sized,
+        b"
+        64 0 0 0 210 -> 0 1;  65 0 0 0 213 -> 4
+        1 64 0 0 149 -> 0 1;  1 65 0 0 151 -> 4
+        1 0 64 0 277 -> 0 1;  1 0 65 0 281 -> 4
+        0 0 0 64 274 -> 0 1;  0 0 0 65 278 -> 4
+        ",
+    );
+    run(
+        t,
+        Recipe::Sample,
+        b"
+        5 65 37 -> 4;  5 255 37 -> 4;  4 1 37 -> 4
+        9 65 37 -> 4;  9 255 37 -> 4;  8 1 37 -> 4
+        13 65 37 -> 4;  13 255 37 -> 4;  12 1 37 -> 4
+        17 65 37 -> 4;  17 255 37 -> 4;  16 1 37 -> 4
+        ",
+    )
+}
+
+// Check 5. Byte, its value, length: each offset, each count and the length one off; offsets of empty sections; bodies from byte 19 on.
+pub fn layout() -> Tally {
+    let mut t = run(
+        begin(),
+        Recipe::Sample,
+        b"
+        3 17 37 -> 5;  3 18 37 -> 0 9;  3 19 37 -> 5;  2 1 37 -> 5
+        7 26 37 -> 5;  7 28 37 -> 5;  6 1 37 -> 5
+        11 28 37 -> 5;  11 30 37 -> 5;  10 1 37 -> 5
+        15 32 37 -> 5;  15 34 37 -> 5;  14 1 37 -> 5
+        5 2 37 -> 5;  5 4 37 -> 5
+        9 0 37 -> 5;  9 2 37 -> 5
+        13 0 37 -> 5;  13 2 37 -> 5
+        17 0 37 -> 5;  17 2 37 -> 5
+        0 1 36 -> 5;  0 1 38 -> 5
+        ",
+    );
+    t = run(
+        t,
+        Recipe::Empty,
+        b"
+        0 1 19 -> 5
+        15 18 18 -> 0 1;  15 0 18 -> 5
+        7 17 18 -> 5;  11 19 18 -> 5
+        ",
+    );
+    written(
+        t,
+        b"
+        01 02  00 13 00 03  00 1C 00 01  00 1E 00 01  00 22 00 01
+        00  00 00 00 01 00 00 00 05 00  00 01  00 00 00 01  00 00 01 01
+        ",
+        5,
+        0,
+    )
+}
+
+// Check 6. Terms before it, kind, a, b; then byte, its value, length: a name that another term has.
+pub fn terms() -> Tally {
+    let t = run(
+        begin(),
+        Recipe::Term,
+        b"
+        0 0 0 0 -> 0 2;  0 0 0 1 -> 6
+        0 0 15 0 -> 0 2;  0 0 16 0 -> 6;  0 0 255 0 -> 6
+        63 0 15 0 -> 0 2;  63 0 16 0 -> 6
+        0 1 0 0 -> 6;  1 1 0 0 -> 0 1;  1 1 1 0 -> 6;  1 1 2 0 -> 6;  1 1 0 1 -> 6
+        63 1 62 0 -> 0 1;  63 1 63 0 -> 6
+        0 2 0 0 -> 6;  1 2 0 0 -> 0 1;  1 2 1 0 -> 6;  1 2 0 1 -> 6
+        63 2 62 62 -> 0 1;  63 2 63 62 -> 6;  63 2 62 63 -> 6
+        0 3 0 0 -> 6;  1 3 0 0 -> 0 1;  1 3 1 0 -> 6;  1 3 0 1 -> 6
+        63 3 62 62 -> 0 1;  63 3 63 62 -> 6;  63 3 62 63 -> 6
+        0 4 0 0 -> 6;  1 4 0 0 -> 0 2;  1 4 0 1 -> 6;  1 4 7 0 -> 0 2;  1 4 8 0 -> 6
+        63 4 7 62 -> 0 2;  63 4 8 62 -> 6;  63 4 7 63 -> 6
+        0 5 0 0 -> 6;  1 5 0 0 -> 0 2;  1 5 0 1 -> 6;  1 5 7 0 -> 0 2;  1 5 8 0 -> 6
+        63 5 7 62 -> 0 2;  63 5 8 62 -> 6;  63 5 7 63 -> 6
+        0 6 0 0 -> 0 1;  0 6 1 0 -> 6;  0 6 0 1 -> 6
+        63 6 0 0 -> 0 1;  63 6 1 0 -> 6;  63 6 0 1 -> 6
+        0 7 0 0 -> 0 1;  0 7 1 0 -> 6;  0 7 0 1 -> 6
+        63 7 0 0 -> 0 1;  63 7 1 0 -> 6;  63 7 0 1 -> 6
+        0 8 0 0 -> 6;  1 8 0 0 -> 6;  63 8 0 0 -> 6;  0 255 0 0 -> 6
+        ",
+    );
+    run(
+        t,
+        Recipe::Sample,
+        b"
+        25 4 37 -> 0 9;  25 0 37 -> 6;  19 5 37 -> 6;  21 0 37 -> 6
+        25 15 37 -> 0 9;  25 16 37 -> 6;  26 1 37 -> 6
+        ",
+    )
+}
+
+// Check 7. Terms, left, right.
+pub fn rules() -> Tally {
+    run(
+        begin(),
+        Recipe::Rule,
+        b"
+        0 0 0 -> 7;  1 0 0 -> 0 1;  1 1 0 -> 7;  1 0 1 -> 7
+        2 1 1 -> 0 1;  2 2 0 -> 7;  2 0 2 -> 7
+        64 63 63 -> 0 1;  64 64 63 -> 7;  64 63 64 -> 7
+        64 255 0 -> 7;  64 0 255 -> 7
+        ",
+    )
+}
+
+// Check 8. N, terms, individual, term, sense, grade.
+pub fn memberships() -> Tally {
+    run(
+        begin(),
+        Recipe::Membership,
+        b"
+        2 0 0 0 0 0 -> 8;  2 1 0 0 0 0 -> 0 1
+        2 1 7 0 0 2 -> 0 1;  2 1 8 0 0 2 -> 8;  2 1 255 0 0 2 -> 8
+        2 1 7 1 0 2 -> 8;  2 64 7 63 0 2 -> 0 1;  2 64 7 64 0 2 -> 8
+        2 1 7 0 1 2 -> 0 1;  2 1 7 0 2 2 -> 8;  2 1 7 0 255 2 -> 8
+        2 1 7 0 0 3 -> 8;  2 1 7 0 1 3 -> 8
+        1 1 7 0 0 1 -> 0 1;  1 1 7 0 0 2 -> 8
+        8 1 7 0 0 8 -> 0 1;  8 1 7 0 0 9 -> 8;  8 1 7 0 0 255 -> 8
+        ",
+    )
+}
+
+// Check 9. N, role, from, to, grade.
+pub fn links() -> Tally {
+    run(
+        begin(),
+        Recipe::Link,
+        b"
+        2 0 0 0 0 -> 0 1;  2 7 7 7 2 -> 0 1
+        2 8 7 7 2 -> 9;  2 255 7 7 2 -> 9
+        2 7 8 7 2 -> 9;  2 7 255 7 2 -> 9
+        2 7 7 8 2 -> 9;  2 7 7 255 2 -> 9
+        2 7 7 7 3 -> 9;  1 0 0 0 1 -> 0 1;  1 0 0 0 2 -> 9
+        8 0 0 0 8 -> 0 1;  8 0 0 0 9 -> 9;  8 0 0 0 255 -> 9
+        ",
+    )
+}
+
+// Check 10. N, names, terms "some", terms "all".
+pub fn candidates() -> Tally {
+    run(
+        begin(),
+        Recipe::Places,
+        b"
+        1 14 0 0 -> 0 16384;  1 15 0 0 -> 10;  1 16 0 0 -> 10
+        2 8 0 0 -> 0 6561;  2 9 0 0 -> 10
+        3 7 0 0 -> 0 16384;  3 8 0 0 -> 10
+        4 6 0 0 -> 0 15625;  4 7 0 0 -> 10
+        5 5 0 0 -> 0 7776;  5 6 0 0 -> 10
+        6 4 0 0 -> 0 2401;  6 5 0 0 -> 10
+        7 4 0 0 -> 0 4096;  7 5 0 0 -> 10
+        8 4 0 0 -> 0 6561;  8 5 0 0 -> 10
+        1 0 0 0 -> 0 1;  1 0 14 0 -> 0 16384;  1 0 7 8 -> 10
+        8 1 2 1 -> 0 6561;  8 2 2 1 -> 10;  8 1 2 2 -> 10
+        1 1 31 31 -> 10;  3 0 32 31 -> 10;  8 0 0 63 -> 10
+        ",
+    )
+}
+
+// Each fault alone, then with the next; 0 is none.
+pub fn order() -> Tally {
+    run(
+        begin(),
+        Recipe::Faults,
+        b"
+        0 0 -> 0 16384;  1 0 -> 1;  2 0 -> 2;  3 0 -> 3;  4 0 -> 4;  5 0 -> 5;  6 0 -> 6;  7 0 -> 7;  8 0 -> 8;  9 0 -> 9;  10 0 -> 10
+        1 2 -> 1;  2 3 -> 2;  3 4 -> 3;  4 5 -> 4;  5 6 -> 5;  6 7 -> 6;  7 8 -> 7;  8 9 -> 8;  9 10 -> 9
+        ",
+    )
+}

@@ -1,0 +1,156 @@
+// Random books: a head that fits, bodies of random records, and now and then some damage.
+ghost use mathlib.Core.Path.{_≡_};
+use crate::books;
+use crate::books::blank;
+use crate::tally::Tally;
+use crate::tally::begin;
+use crate::tally::compare;
+use std::num::wrapping_add_usize;
+
+const BOOKS: u64 = 20000;
+
+// Where the next byte goes, and the state of the generator.
+struct Pen {
+    at: usize,
+    seed: u64,
+}
+
+// N, how many grades there are, and the four counts.
+struct Shape {
+    steps: u8,
+    grades: u8,
+    terms: u8,
+    rules: u8,
+    memberships: u8,
+    links: u8,
+}
+
+fn wide(x: u8) -> u64
+    ensures { λ r. ⌜ r ≡ x ⌝ }
+{
+    x as u64
+}
+
+// Lehmer's generator.
+fn next(seed: u64) -> u64 {
+    seed % 2147483647 * 48271 % 2147483647
+}
+
+// A number below `bound`, but `bound` itself in one of 100 draws.
+fn pick(seed: u64, bound: u8) -> u8 {
+    if bound == 0 {
+        return 0;
+    }
+    if seed % 100 == 0 {
+        return bound;
+    }
+    (seed / 100 % wide(bound) % 256) as u8
+}
+
+fn draw(p: Pen, b: &mut [u8], bound: u8) -> Pen {
+    let seed = next(p.seed);
+    Pen {
+        at: books::byte(b, p.at, pick(seed, bound)),
+        seed,
+    }
+}
+
+fn draw_two(p: Pen, b: &mut [u8], x: u8, y: u8) -> Pen {
+    let q = draw(p, b, x);
+    draw(q, b, y)
+}
+
+// A term of the given number. The first is a name, since it can have no child.
+fn draw_term(p: Pen, b: &mut [u8], number: u8) -> Pen {
+    let seed = next(p.seed);
+    let kind = if number == 0 { 0 } else { pick(seed, 8) };
+    let q = Pen {
+        at: books::byte(b, p.at, kind),
+        seed,
+    };
+    match kind {
+        0 => draw_two(q, b, 16, 1),
+        1 => draw_two(q, b, number, 1),
+        2 => draw_two(q, b, number, number),
+        3 => draw_two(q, b, number, number),
+        4 => draw_two(q, b, 8, number),
+        5 => draw_two(q, b, 8, number),
+        _ => draw_two(q, b, 1, 1),
+    }
+}
+
+// A record of the given section; a term needs its number too.
+fn draw_record(p: Pen, b: &mut [u8], s: Shape, section: u8, number: u8) -> Pen {
+    if section == 0 {
+        return draw_term(p, b, number);
+    }
+    if section == 1 {
+        return draw_two(p, b, s.terms, s.terms);
+    }
+    if section == 2 {
+        let q = draw_two(p, b, 8, s.terms);
+        return draw_two(q, b, 2, s.grades);
+    }
+    let q = draw_two(p, b, 8, 8);
+    draw_two(q, b, 8, s.grades)
+}
+
+fn draw_section(mut p: Pen, b: &mut [u8], s: Shape, section: u8, count: u8) -> Pen {
+    for i in 0..count {
+        p = draw_record(p, b, s, section, i);
+    }
+    p
+}
+
+fn shape_of(seed: u64) -> Shape {
+    let steps = (seed % 8) as u8;
+    Shape {
+        steps: steps + 1,
+        grades: steps + 2,
+        terms: (seed / 8 % 13) as u8,
+        rules: (seed / 104 % 5) as u8,
+        memberships: (seed / 520 % 5) as u8,
+        links: (seed / 2600 % 5) as u8,
+    }
+}
+
+// Damages one book in eight, by a byte of any value anywhere or a small one in the head.
+fn damage(b: &mut [u8], seed: u64) {
+    match seed % 16 {
+        0 => books::set(b, (seed / 4096 % 64) as usize, (seed / 16 % 256) as u8),
+        1 => books::set(b, (seed / 4096 % 18) as usize, (seed / 16 % 70) as u8),
+        _ => {}
+    }
+}
+
+// Gives one book in eight another length.
+fn length(end: usize, seed: u64) -> usize {
+    match seed % 16 {
+        2 => wrapping_add_usize(end, 1),
+        3 => (seed / 16 % 100) as usize,
+        _ => end,
+    }
+}
+
+fn book(t: Tally, seed: u64) -> Tally {
+    let mut b = blank();
+    let s = shape_of(seed);
+    let at = books::head(&mut b, s.steps, s.terms, s.rules, s.memberships, s.links);
+    let mut p = Pen { at, seed };
+    p = draw_section(p, &mut b, s, 0, s.terms);
+    p = draw_section(p, &mut b, s, 1, s.rules);
+    p = draw_section(p, &mut b, s, 2, s.memberships);
+    p = draw_section(p, &mut b, s, 3, s.links);
+    let last = next(p.seed);
+    damage(&mut b, last);
+    compare(t, &b, length(p.at, last))
+}
+
+// Each book has a seed of its own, far from those of the others.
+pub fn books() -> Tally {
+    let mut t = begin();
+    for i in 0..BOOKS {
+        t = book(t, next(i * 104729 + 7));
+    }
+    t
+}

@@ -1,0 +1,187 @@
+// Makes a book out of a row of numbers; the recipe says what they are.
+ghost use Prim.Native.Nat.{_≤_};
+use crate::answers::Answer;
+use crate::answers::accepted;
+use crate::answers::refused;
+use crate::books;
+use crate::books::blank;
+use crate::faults;
+use crate::tally::Tally;
+use crate::tally::expect;
+use crate::text;
+use crate::text::Row;
+use std::num::wrapping_add_u8;
+
+// The answer that is expected of a row with too few or too many numbers: none.
+const NO_ANSWER: u8 = 98;
+
+pub enum Recipe {
+    Sized,
+    Empty,
+    Sample,
+    Term,
+    Rule,
+    Membership,
+    Link,
+    Places,
+    Faults,
+}
+
+// How many numbers of a row say what the book is. The expected answer follows: a number, and for 0 the candidates.
+fn columns(recipe: Recipe) -> usize
+    ensures { λ r. ⌜ r ≤ 6 ⌝ }
+{
+    match recipe {
+        Recipe::Sized => 5,
+        Recipe::Empty => 3,
+        Recipe::Sample => 3,
+        Recipe::Term => 4,
+        Recipe::Rule => 3,
+        Recipe::Membership => 6,
+        Recipe::Link => 5,
+        Recipe::Places => 4,
+        Recipe::Faults => 2,
+    }
+}
+
+// So many tops, rules and claims, the rules and claims of zeros. N is 1.
+fn sized(b: &mut [u8], terms: u8, rules: u8, memberships: u8, links: u8, length: usize) -> usize {
+    let at = books::head(b, 1, terms, rules, memberships, links);
+    books::terms(b, at, terms, 6, 0, 0);
+    length
+}
+
+// No records, one byte of the head changed. N is 1.
+fn empty(b: &mut [u8], at: u8, x: u8, length: usize) -> usize {
+    books::head(b, 1, 0, 0, 0, 0);
+    books::set(b, at as usize, x);
+    length
+}
+
+// A book of 37 bytes, one of them changed. N is 2; terms: name 0, not 0, name 5; a rule; a membership claim; a link claim.
+fn sample(b: &mut [u8], at: u8, x: u8, length: usize) -> usize {
+    text::write(
+        b,
+        b"
+        01 02  00 12 00 03  00 1B 00 01  00 1D 00 01  00 21 00 01
+        00 00 00 01 00 00 00 05 00  00 01  00 00 00 01  00 00 01 01
+        ",
+    );
+    books::set(b, at as usize, x);
+    length
+}
+
+// So many tops, and a term after them. N is 1.
+fn term(b: &mut [u8], before: u8, kind: u8, x: u8, y: u8) -> usize {
+    let mut at = books::head(b, 1, wrapping_add_u8(before, 1), 0, 0, 0);
+    at = books::terms(b, at, before, 6, 0, 0);
+    books::term(b, at, kind, x, y)
+}
+
+// So many tops, the rule 0 0 and another. N is 1.
+fn rule(b: &mut [u8], terms: u8, left: u8, right: u8) -> usize {
+    let mut at = books::head(b, 1, terms, 2, 0, 0);
+    at = books::terms(b, at, terms, 6, 0, 0);
+    at = books::pair(b, at, 0, 0);
+    books::pair(b, at, left, right)
+}
+
+// So many tops, the membership claim 0 0 0 0 and another.
+fn membership(
+    b: &mut [u8],
+    steps: u8,
+    terms: u8,
+    individual: u8,
+    term: u8,
+    sense: u8,
+    grade: u8,
+) -> usize {
+    let mut at = books::head(b, steps, terms, 0, 2, 0);
+    at = books::terms(b, at, terms, 6, 0, 0);
+    at = books::claim(b, at, 0, 0, 0, 0);
+    books::claim(b, at, individual, term, sense, grade)
+}
+
+// No terms, the link claim 0 0 0 0 and another.
+fn link(b: &mut [u8], steps: u8, role: u8, from: u8, to: u8, grade: u8) -> usize {
+    let mut at = books::head(b, steps, 0, 0, 0, 2);
+    at = books::claim(b, at, 0, 0, 0, 0);
+    books::claim(b, at, role, from, to, grade)
+}
+
+// A top, so many names, and so many terms "some" and "all" over the top.
+fn places(b: &mut [u8], steps: u8, names: u8, some: u8, all: u8) -> usize {
+    let quantified = wrapping_add_u8(some, all);
+    let mut at = books::head(
+        b,
+        steps,
+        wrapping_add_u8(wrapping_add_u8(1, names), quantified),
+        0,
+        0,
+        0,
+    );
+    at = books::term(b, at, 6, 0, 0);
+    at = books::names(b, at, names);
+    at = books::terms(b, at, some, 4, 0, 0);
+    books::terms(b, at, all, 5, 7, 0)
+}
+
+fn cell(r: Row, i: usize) -> u8 {
+    if i < 8 { (r.cells[i] % 256) as u8 } else { 0 }
+}
+
+// Writes the book and answers its length.
+fn make(b: &mut [u8], recipe: Recipe, r: Row) -> usize {
+    let v = cell(r, 0);
+    let w = cell(r, 1);
+    let x = cell(r, 2);
+    let y = cell(r, 3);
+    let z = cell(r, 4);
+    match recipe {
+        Recipe::Sized => sized(b, v, w, x, y, r.cells[4]),
+        Recipe::Empty => empty(b, v, w, r.cells[2]),
+        Recipe::Sample => sample(b, v, w, r.cells[2]),
+        Recipe::Term => term(b, v, w, x, y),
+        Recipe::Rule => rule(b, v, w, x),
+        Recipe::Membership => membership(b, v, w, x, y, z, cell(r, 5)),
+        Recipe::Link => link(b, v, w, x, y, z),
+        Recipe::Places => places(b, v, w, x, y),
+        Recipe::Faults => faults::make(b, v, w),
+    }
+}
+
+fn expected(r: Row, from: usize) -> Answer
+    requires { ⌜ from ≤ 6 ⌝ }
+{
+    let number = cell(r, from);
+    if r.count == from + 1 && number != 0 {
+        return refused(number);
+    }
+    if r.count == from + 2 && number == 0 {
+        return accepted(r.cells[from + 1] as u64);
+    }
+    refused(NO_ANSWER)
+}
+
+// The case of one row; without numbers it is none.
+fn case(t: Tally, recipe: Recipe, r: Row) -> Tally {
+    if r.count == 0 {
+        return t;
+    }
+    let mut b = blank();
+    let length = make(&mut b, recipe, r);
+    expect(t, &b, length, expected(r, columns(recipe)))
+}
+
+// The cases of a table; each ends with a semicolon or the line.
+pub fn run(mut t: Tally, recipe: Recipe, table: &[u8]) -> Tally {
+    let mut r = text::empty_row();
+    for i in 0..table.len() {
+        r = text::read(r, table[i]);
+        if table[i] == b';' || table[i] == b'\n' {
+            t = case(t, recipe, r);
+            r = text::empty_row();
+        }
+    }
+    t
+}
