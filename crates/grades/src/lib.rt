@@ -12,26 +12,28 @@ ghost use Rattle.grades.specs.Rows.{rowOf, RowsAllow, linkOfRows};
 ghost use Rattle.grades.specs.OneTerm.{nextGrade, restAfter, TermAllows};
 use sections::is_place;
 
-// ---- the connectives, and a child's grade
+// ---- the base connectives
 
-fn lesser(x: u8, y: u8) -> u8
+pub fn lesser(x: u8, y: u8) -> u8
     ensures { λ r. ⌜ r ≡ min x y ⌝ }
 {
     if x < y { x } else { y }
 }
 
-fn greater(x: u8, y: u8) -> u8
+pub fn greater(x: u8, y: u8) -> u8
     ensures { λ r. ⌜ r ≡ max x y ⌝ }
 {
     if x < y { y } else { x }
 }
 
-fn complement(steps: u8, x: u8) -> u8
+pub fn complement(steps: u8, x: u8) -> u8
     requires { ⌜ x ≤ steps ⌝ }
     ensures { λ r. ⌜ r ≡ steps - x ⌝ }
 {
     steps - x
 }
+
+// ---- a child's grade
 
 // The grade in the row of the child whose number stands at `at`.
 fn child_grade(terms: &[u8], at: usize, row: &[u8]) -> u8

@@ -10,27 +10,11 @@ ghost use Rattle.sections.specs.Terms.{kindAt, termCount, termAt, termsOf, InRa
 ghost use Rattle.sheets.specs.Reading.{interpretation};
 ghost use Rattle.grids.specs.Columns.{cellAt, HoldsGrades, rowsOf};
 ghost use Rattle.grids.specs.Workable.{Workable, Ready, WorkedTo, Reached, gradeFrom, takenOver, takenAt};
+use grades::complement;
+use grades::greater;
+use grades::lesser;
 
-// ---- the connectives
-
-fn complement(steps: u8, x: u8) -> u8
-    requires { ⌜ x ≤ steps ⌝ }
-    ensures { λ r. ⌜ r ≡ steps - x ⌝ }
-{
-    steps - x
-}
-
-fn lesser(x: u8, y: u8) -> u8
-    ensures { λ r. ⌜ r ≡ min x y ⌝ }
-{
-    if x < y { x } else { y }
-}
-
-fn greater(x: u8, y: u8) -> u8
-    ensures { λ r. ⌜ r ≡ max x y ⌝ }
-{
-    if x < y { y } else { x }
-}
+// ---- through a link
 
 // What "some" takes through a link.
 fn through_some(link: u8, child: u8) -> u8
