@@ -15,7 +15,7 @@ use Rattle.sections.specs.Rules.{RulesRight}
 use Rattle.sections.specs.Claims.{MembershipsRight, LinksRight}
 use Rattle.book.specs.Layout.{steps, sectionsOf, LengthRight, EditionRight, StepsRight, CountsRight, LaidOut, termBytes, ruleBytes, membershipBytes, linkBytes, termsIn}
 use Rattle.book.specs.Reading.{bookOf}
-use Rattle.book.specs.Opening.{bodyQuestions, bookQuestions, Accepts, Right, opened, openedOf, fewCandidates?, candidateQuestions, counted, countedOf}
+use Rattle.book.specs.Opening.{bodyQuestions, bookQuestions, Accepts, Right, opened, openedOf, fewCandidates?, candidateQuestions, counted, countedOf, countedNumber, openedNumber}
 use Rattle.book.specs.declared.Sections.{Sections}
 use Rattle.book.specs.declared.Opened.the-variants.{Refused, Accepted}
 use Rattle.book.specs.declared.Counted.the-variants.{Refused as Declined, Candidates}
@@ -197,3 +197,21 @@ counted-declined b n = go (firstNo (candidateQuestions b)) refl
         → firstNo (candidateQuestions b) ≡ some n
     go none e h = let z : _≡_ {A = ℕ} 0 1 = cc in absurd (omega arith)
     go (some m) e h = let f : m ≡ n = cc in e ∙ ap {B = Option ℕ} some f
+
+-- ---- the answers' numbers are the first no
+
+pub openedNumber-is : (b : List ℕ) → openedNumber (openedOf b) ≡ firstNo (bookQuestions b)
+unfolding openedOf
+openedNumber-is b = go (firstNo (bookQuestions b))
+  where
+    go : (o : Option ℕ) → openedNumber (opened (sectionsOf b) o) ≡ o
+    go none = refl
+    go (some n) = refl
+
+pub countedNumber-is : (b : List ℕ) → countedNumber (countedOf b) ≡ firstNo (candidateQuestions b)
+unfolding countedOf
+countedNumber-is b = go (firstNo (candidateQuestions b))
+  where
+    go : (o : Option ℕ) → countedNumber (counted (candidates (bookOf b .grading)) o) ≡ o
+    go none = refl
+    go (some n) = refl

@@ -1,12 +1,12 @@
 -- Laws of the two questions: which checks that were made give which answer; and the book that was opened is the one asked about.
 -- Assumes nothing.
-use mathlib.Core.Path.{_≡_, ap, _∙_}
-use mathlib.Core.Option.{none, some}
+use mathlib.Core.Path.{_≡_, refl, ap, _∙_}
+use mathlib.Core.Option.{Option, none, some}
 use mathlib.Core.List.{List, [], _∷_, _++_}
 use Prim.Native.Nat.{ℕ}
 use Rattle.chain.specs.Questions.{Question, ask, firstNo}
 use Rattle.chain.proofs.Questions.{first-empty, first-yes, first-no, first-some-append, first-none-append}
-use Rattle.checker.specs.Asking.{answered}
+use Rattle.checker.specs.Asking.{answered, answerNumber}
 use Rattle.checker.specs.declared.Answer.the-variants.{Refused, Grade}
 
 -- two questions more after those on the book
@@ -25,3 +25,8 @@ module _ (g : ℕ) (qs : List Question) {A B : Type 0} (m n : ℕ) (d : Dec A) (
 
   pub answered-both : firstNo qs ≡ none → A → B → answered g (firstNo asked) ≡ Grade g
   answered-both h a b = ap (answered g) (first-none-append qs _ h ∙ first-yes m d _ a ∙ first-yes n e _ b ∙ first-empty)
+
+-- an answer's number is the first no
+pub answerNumber-is : (g : ℕ) (o : Option ℕ) → answerNumber (answered g o) ≡ o
+answerNumber-is g none = refl
+answerNumber-is g (some n) = refl

@@ -1,7 +1,7 @@
 -- Laws of working out a sheet: which checks that were made give which answer and grid; and what a sheet that fits an accepted book gives the
 -- code that works it out.
 -- Assumes nothing.
-use mathlib.Core.Path.{_≡_, sym, ap, ap₂, subst, _∙_}
+use mathlib.Core.Path.{_≡_, refl, sym, ap, ap₂, subst, _∙_}
 use mathlib.Core.Option.{Option, none, some}
 use mathlib.Core.List.{List, [], _++_}
 use Prim.Native.Nat.{ℕ, _*_, _≤_, max}
@@ -37,7 +37,7 @@ use Rattle.grids.specs.Workable.{Workable}
 use Rattle.grids.proofs.Columns.{rows-grid}
 use Rattle.verdicts.specs.Cells.{verdictIn, Covered}
 use Rattle.verdicts.proofs.Cells.{verdict-in, covered}
-use Rattle.checker.specs.Working.{Filled, gridSize, bookSheetQuestions, SheetFits, workQuestions, worked, workedOf, gridBy, gridAfter}
+use Rattle.checker.specs.Working.{Filled, gridSize, bookSheetQuestions, SheetFits, workQuestions, worked, workedOf, gridBy, gridAfter, workedNumber}
 use Rattle.checker.specs.declared.Worked.the-variants.{Refused, Says}
 
 -- ---- the first no
@@ -167,3 +167,12 @@ module _ (b t : List ℕ) (s : Sections) (ok : Right b s) where
 -- a local array of k zeros is k long, whatever k
 pub zeros-long : (k : ℕ) → k ≤ length (replicate {A = ℕ} k 0)
 zeros-long k = le-of-eq (sym (length-replicate k 0))
+
+-- an answer's number is the first no
+pub workedNumber-is : (b t : List ℕ) (g : ℕ) → workedNumber (workedOf b t g) ≡ firstNo (workQuestions b t g)
+unfolding workedOf
+workedNumber-is b t g = go (firstNo (workQuestions b t g))
+  where
+    go : (o : Option ℕ) → workedNumber (worked b t o) ≡ o
+    go none = refl
+    go (some n) = refl

@@ -10,7 +10,7 @@ use Rattle.chain.specs.Questions.{firstNo}
 use Rattle.chain.proofs.Questions.{first-empty, first-yes, first-no, first-none}
 use Rattle.book.proofs.Reading.{length-stretch}
 use Rattle.sheets.specs.Layout.{shapeOf, namesAt, linksAt, individualsAt, endAt, nameBytes, linkBytes, individualBytes, HeadRight, SheetLaidOut, EntriesRight}
-use Rattle.sheets.specs.Opening.{sheetQuestions, SheetRight, sheetBy, sheetOpened}
+use Rattle.sheets.specs.Opening.{sheetQuestions, SheetRight, sheetBy, sheetOpened, sheetNumber}
 use Rattle.sheets.specs.declared.Shape.{Shape}
 use Rattle.sheets.specs.declared.Sheet.the-variants.{Refused, Right}
 
@@ -81,3 +81,12 @@ module _ (b : List ℕ) (p : Shape) (N A R I : ℕ) (ok : SheetRight b p N A R I
 
   pub length-individuals : length (individualBytes b p) ≡ p .individuals
   length-individuals = length-stretch b (individualsAt p) (endAt p) (omega arith) ∙ omega arith
+
+-- the answer's number is the first no
+pub sheetNumber-is : (b : List ℕ) (N A R I : ℕ) → sheetNumber (sheetOpened b N A R I) ≡ firstNo (sheetQuestions b (shapeOf b) N A R I)
+unfolding sheetOpened
+sheetNumber-is b N A R I = go (firstNo (sheetQuestions b (shapeOf b) N A R I))
+  where
+    go : (o : Option ℕ) → sheetNumber (sheetBy (shapeOf b) o) ≡ o
+    go none = refl
+    go (some n) = refl

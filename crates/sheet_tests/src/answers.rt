@@ -1,0 +1,56 @@
+// What a call says: the number of the first check that says no, or 0 and the verdict or grade.
+use checker::Worked;
+use sheets::Verdict;
+
+// With number 0, kind 0 is "meets", 1 a rule with its element, 2 a membership claim, 3 a link claim, 4 a grade.
+pub struct Answer {
+    pub number: u8,
+    pub kind: u8,
+    pub at: usize,
+    pub element: usize,
+}
+
+pub fn refused(number: u8) -> Answer {
+    Answer {
+        number,
+        kind: 0,
+        at: 0,
+        element: 0,
+    }
+}
+
+pub fn said(kind: u8, at: usize, element: usize) -> Answer {
+    Answer {
+        number: 0,
+        kind,
+        at,
+        element,
+    }
+}
+
+fn of_verdict(v: Verdict) -> Answer {
+    match v {
+        Verdict::Meets => said(0, 0, 0),
+        Verdict::BreaksRule(i, e) => said(1, i, e),
+        Verdict::BreaksMembership(i) => said(2, i, 0),
+        Verdict::BreaksLink(i) => said(3, i, 0),
+    }
+}
+
+pub fn of_worked(w: Worked) -> Answer {
+    match w {
+        Worked::Refused(n) => refused(n),
+        Worked::Says(v) => of_verdict(v),
+    }
+}
+
+pub fn of_grade(a: checker::Answer) -> Answer {
+    match a {
+        checker::Answer::Refused(n) => refused(n),
+        checker::Answer::Grade(g) => said(4, g as usize, 0),
+    }
+}
+
+pub fn same(a: Answer, b: Answer) -> bool {
+    a.number == b.number && a.kind == b.kind && a.at == b.at && a.element == b.element
+}

@@ -1,0 +1,21 @@
+// Runs sheets, grades and links through the proved entry points, and compares the answers and grids with expected ones.
+mod answers;
+mod cases;
+mod runs;
+mod tally;
+mod text;
+
+use tally::close;
+
+fn main() {
+    let mut total = tally::begin();
+    total = close(total, b"heads", cases::heads());
+    total = close(total, b"layout", cases::layout());
+    total = close(total, b"bodies", cases::bodies());
+    total = close(total, b"order", cases::order());
+    total = close(total, b"grids", cases::grids());
+    total = close(total, b"verdicts", cases::verdicts());
+    total = close(total, b"grades", cases::grades());
+    total = close(total, b"links", cases::links());
+    tally::print(b"total", total);
+}

@@ -1,0 +1,206 @@
+// Runs the cases of a table on a book and a sheet, written in hexadecimal; the recipe says what the numbers of a row are.
+use crate::answers::Answer;
+use crate::answers::of_grade;
+use crate::answers::of_worked;
+use crate::answers::refused;
+use crate::answers::said;
+use crate::tally::Tally;
+use crate::tally::judge;
+use crate::text;
+use crate::text::Row;
+use crate::text::cell;
+use crate::text::small;
+use std::num::wrapping_add_usize;
+
+// The number of no check.
+const NO_CALL: u8 = 98;
+
+pub enum Recipe {
+    Change,
+    Entries,
+    Grade,
+    Link,
+}
+
+// How many numbers a row has, without the grade after a 0.
+fn columns(recipe: Recipe) -> usize {
+    match recipe {
+        Recipe::Change => 5,
+        Recipe::Entries => 13,
+        Recipe::Grade => 3,
+        Recipe::Link => 4,
+    }
+}
+
+pub fn same_bytes(a: &[u8], b: &[u8]) -> bool {
+    if a.len() != b.len() {
+        return false;
+    }
+    for i in 0..a.len() {
+        if a[i] != b[i] {
+            return false;
+        }
+    }
+    true
+}
+
+fn set(b: &mut [u8], at: usize, x: u8) {
+    if at < b.len() {
+        b[at] = x;
+    }
+}
+
+// The first numbers of a row, from a place on.
+fn set_all(b: &mut [u8], at: usize, r: Row, count: usize) {
+    for i in 0..count {
+        set(b, wrapping_add_usize(at, i), small(r, i));
+    }
+}
+
+// A case that cannot be made.
+fn unfit(t: Tally) -> Tally {
+    judge(t, refused(0), refused(0), false)
+}
+
+// The call gets the first `room` bytes of the buffer.
+fn answer(book: &[u8], sheet: &[u8], room: usize, buffer: &mut [u8]) -> Answer {
+    if buffer.len() < room {
+        return refused(NO_CALL);
+    }
+    of_worked(checker::work_out(book, sheet, &mut buffer[0..room]))
+}
+
+// The buffer is of A5; after the call, the whole of it is to be as wanted.
+fn work(t: Tally, book: &[u8], sheet: &[u8], room: usize, a: Answer, wanted: &[u8]) -> Tally {
+    let mut grid = [0xA5u8; 64];
+    let given = answer(book, sheet, room, &mut grid);
+    judge(t, a, given, same_bytes(&grid, wanted))
+}
+
+// The grid is written only if the call is not refused.
+fn want(b: &mut [u8], number: u8, grid: &[u8]) {
+    if number == 0 {
+        text::write(b, grid);
+    }
+}
+
+// Book, sheet and grid in hexadecimal. After the grid, and on a refusal everywhere, A5 is to stay.
+fn worked(t: Tally, book: &[u8], sheet: &[u8], room: usize, number: u8, grid: &[u8]) -> Tally {
+    let mut wanted = [0xA5u8; 64];
+    want(&mut wanted, number, grid);
+    work(t, book, sheet, room, refused(number), &wanted)
+}
+
+fn on_sheet(t: Tally, book: &[u8], sheet: &[u8], room: usize, number: u8, grid: &[u8]) -> Tally {
+    let mut s = [0u8; 64];
+    let length = text::write(&mut s, sheet);
+    if length <= 64 {
+        return worked(t, book, &s[0..length], room, number, grid);
+    }
+    unfit(t)
+}
+
+// A case without a row: book, sheet, room in the grid, number, grid.
+pub fn written(t: Tally, book: &[u8], sheet: &[u8], room: usize, number: u8, grid: &[u8]) -> Tally {
+    let mut b = [0u8; 64];
+    let size = text::write(&mut b, book);
+    if size <= 64 {
+        return on_sheet(t, &b[0..size], sheet, room, number, grid);
+    }
+    unfit(t)
+}
+
+// Byte of the sheet, its value, the sheet's length, room in the grid -> number; 0 is "meets", with the grid.
+fn change(t: Tally, book: &[u8], sheet: &[u8], grid: &[u8], r: Row) -> Tally {
+    let mut s = [0u8; 64];
+    text::write(&mut s, sheet);
+    set(&mut s, cell(r, 0), small(r, 1));
+    let length = cell(r, 2);
+    if length <= 64 {
+        return worked(t, book, &s[0..length], cell(r, 3), small(r, 4), grid);
+    }
+    unfit(t)
+}
+
+// Four grades of names, four of links, two elements -> what is broken, which, at which element. The book's terms are its names.
+fn entries(t: Tally, book: &[u8], sheet: &[u8], r: Row) -> Tally {
+    let mut s = [0u8; 64];
+    let mut wanted = [0xA5u8; 64];
+    text::write(&mut s, sheet);
+    set_all(&mut s, 12, r, 10);
+    set_all(&mut wanted, 0, r, 4);
+    let expected = said(small(r, 10), cell(r, 11), cell(r, 12));
+    work(t, book, &s[0..22], 64, expected, &wanted)
+}
+
+// A grade when the number is 0.
+fn graded(number: u8, grade: usize) -> Answer {
+    if number == 0 {
+        said(4, grade, 0)
+    } else {
+        refused(number)
+    }
+}
+
+// The case of one row; without numbers it is none.
+fn case(t: Tally, recipe: Recipe, book: &[u8], sheet: &[u8], grid: &[u8], r: Row) -> Tally {
+    if r.count == 0 {
+        return t;
+    }
+    if r.count < columns(recipe) {
+        return unfit(t);
+    }
+    let c = cell(r, 0);
+    let d = cell(r, 1);
+    let e = cell(r, 2);
+    match recipe {
+        Recipe::Change => change(t, book, sheet, grid, r),
+        Recipe::Entries => entries(t, book, sheet, r),
+        // candidate, term -> number, grade
+        Recipe::Grade => {
+            let a = of_grade(checker::grade(book, c, d));
+            judge(t, graded(small(r, 2), cell(r, 3)), a, true)
+        }
+        // role, from, to -> number, grade
+        Recipe::Link => {
+            let a = of_grade(checker::link(book, small(r, 0), d, e));
+            judge(t, graded(small(r, 3), cell(r, 4)), a, true)
+        }
+    }
+}
+
+// The cases of a table; each ends with a semicolon or the line.
+fn rows(
+    mut t: Tally,
+    recipe: Recipe,
+    book: &[u8],
+    sheet: &[u8],
+    grid: &[u8],
+    table: &[u8],
+) -> Tally {
+    let mut r = text::empty_row();
+    for i in 0..table.len() {
+        r = text::read(r, table[i]);
+        if table[i] == b';' || table[i] == b'\n' {
+            t = case(t, recipe, book, sheet, grid, r);
+            r = text::empty_row();
+        }
+    }
+    t
+}
+
+pub fn run(
+    t: Tally,
+    recipe: Recipe,
+    book: &[u8],
+    sheet: &[u8],
+    grid: &[u8],
+    table: &[u8],
+) -> Tally {
+    let mut b = [0u8; 64];
+    let size = text::write(&mut b, book);
+    if size <= 64 {
+        return rows(t, recipe, &b[0..size], sheet, grid, table);
+    }
+    unfit(t)
+}
