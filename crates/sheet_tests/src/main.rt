@@ -1,7 +1,9 @@
 // Runs sheets, grades and links through the proved entry points, and compares the answers and grids with expected ones.
 mod answers;
 mod cases;
+mod compared;
 mod runs;
+mod second;
 mod tally;
 mod text;
 
@@ -17,5 +19,7 @@ fn main() {
     total = close(total, b"verdicts", cases::verdicts());
     total = close(total, b"grades", cases::grades());
     total = close(total, b"links", cases::links());
+    total = close(total, b"compared", compared::small());
+    total = close(total, b"largest", compared::largest());
     tally::print(b"total", total);
 }

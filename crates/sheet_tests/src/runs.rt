@@ -44,7 +44,7 @@ pub fn same_bytes(a: &[u8], b: &[u8]) -> bool {
     true
 }
 
-fn set(b: &mut [u8], at: usize, x: u8) {
+pub fn set(b: &mut [u8], at: usize, x: u8) {
     if at < b.len() {
         b[at] = x;
     }
