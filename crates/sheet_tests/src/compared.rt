@@ -68,7 +68,7 @@ fn sheets_of(mut t: Tally, book: &[u8], count: usize) -> Tally {
     t
 }
 
-// N 4: two names, terms of every kind, quantified three deep.
+// N 4: two names, terms of every kind, quantified four deep.
 pub fn small() -> Tally {
     let mut b = [0u8; 66];
     text::write(
