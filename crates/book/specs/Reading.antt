@@ -2,22 +2,14 @@
 -- Assumes nothing.
 use mathlib.Core.List.{List}
 use Prim.Native.Nat.{ℕ}
-use Rattle.semantics.specs.Interpretations.{graded}
 use Rattle.semantics.specs.Books.{Book}
-use Rattle.sections.specs.Terms.{termsOf}
-use Rattle.sections.specs.Rules.{rulesOf}
-use Rattle.sections.specs.Claims.{membershipsOf, linksOf}
+use Rattle.sections.specs.Books.{bookOfSections}
 use Rattle.book.specs.Layout.{sectionsOf, termBytes, ruleBytes, membershipBytes, linkBytes}
 use Rattle.book.specs.declared.Sections.{Sections}
 
 -- the book whose sections stand in b at s
 abbrev pub bookAt : List ℕ → Sections → Book
-bookAt b s = record {
-  grading = graded (s .steps) (termsOf (termBytes b s));
-  rules = rulesOf (ruleBytes b s);
-  memberships = membershipsOf (membershipBytes b s);
-  links = linksOf (linkBytes b s);
-}
+bookAt b s = bookOfSections (s .steps) (termBytes b s) (ruleBytes b s) (membershipBytes b s) (linkBytes b s)
 
 unfoldable pub bookOf : List ℕ → Book
 bookOf b = bookAt b (sectionsOf b)

@@ -22,7 +22,7 @@ use Rattle.book.specs.Reading.{bookOf}
 use Rattle.book.specs.Opening.{bookQuestions}
 use Rattle.elimination.specs.Survivors.{fits?, settle, survivors}
 use Rattle.placement.specs.Dictionary.{tryEach}
-use Rattle.placement.specs.Outcome.{survivorsOf, holds?, placement, outcome}
+use Rattle.placement.specs.Outcome.{survivorsOf, holds?, placementAmong, placement, outcome}
 
 -- ---- the links
 
@@ -134,5 +134,5 @@ unfolding firstNo says lengthRight? editionRight? stepsRight? countsRight? laidO
 books-accepted = refl
 
 pub books-read : map (λ q. answer (bookOf (q .bytes))) bookReadings ≡ map (λ q. q .says) bookReadings
-unfolding bookOf sectionsOf wordAt termsOf rulesOf membershipsOf linksOf table outcome placement individuals highest tryEach holds? survivors settle fits? from keep each? candidates places link gradeIn value deep slot home homeAs bearer first opens? rank digit
+unfolding bookOf sectionsOf wordAt termsOf rulesOf membershipsOf linksOf table outcome placement placementAmong individuals highest tryEach holds? survivors settle fits? from keep each? candidates places link gradeIn value deep slot home homeAs bearer first opens? rank digit
 books-read = refl

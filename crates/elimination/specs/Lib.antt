@@ -1,2 +1,3 @@
 pub mod Survivors
 pub mod Listed
+pub mod Marks

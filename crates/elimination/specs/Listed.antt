@@ -10,20 +10,24 @@ use Rattle.semantics.specs.Candidates.{bearer, gradeIn, HasType}
 use Rattle.semantics.specs.Links.{link}
 use Rattle.elimination.specs.Survivors.{survivors}
 
+-- "Their interpretation has one element for each, its names graded as in the type (0 for a name that no term uses), and for each role the links
+-- above": of the candidates in xs; the individuals sit as `seat` says
+abbrev pub typesIn : Grading → (xs : List ℕ) (seat : ℕ → ℕ) → Interpretation
+typesIn G xs seat = record {
+  size = length xs;
+  names = λ a e. ⊎-elim (λ u. gradeIn G (getD xs e 0) (u .0)) (λ _. 0) (bearer (G .terms) a);
+  links = λ r e f. link G r (getD xs e 0) (getD xs f 0);
+  element = seat;
+}
+
 module _ (G : Grading) (rs : List Rule) where
   -- the e-th survivor, e from 0
   abbrev pub listed : ℕ → ℕ
   listed e = getD (survivors G rs) e 0
 
-  -- "Their interpretation has one element for each, its names graded as in the type (0 for a name that no term uses), and for each role the
-  -- links above"; the individuals sit as `seat` says
+  -- the interpretation of the listed types
   abbrev pub listedTypes : (seat : ℕ → ℕ) → Interpretation
-  listedTypes seat = record {
-    size = length (survivors G rs);
-    names = λ a e. ⊎-elim (λ u. gradeIn G (listed e) (u .0)) (λ _. 0) (bearer (G .terms) a);
-    links = λ r e f. link G r (listed e) (listed f);
-    element = seat;
-  }
+  listedTypes = typesIn G (survivors G rs)
 
   -- an element has candidate c's type in some finite interpretation on the chain that meets the rules
   abbrev pub Occurs : (c : ℕ) → Type 0

@@ -9,7 +9,7 @@ use Prim.Native.Nat.{ℕ, suc, _≤_, _<_}
 use native.Mathlib.Nat.{le-trans}
 use native.Mathlib.Omega.{arith}
 use lib.ListN.{length}
-use Rattle.chain.specs.Lists.{Each, table, index}
+use Rattle.chain.specs.Lists.{Each, Ascending, table, index}
 use Rattle.chain.proofs.Lists.{mem-at, at-mem, each-mem, each-map₂, each-map₃, length-table, getD-table, each-table, each-highest, index-lt, at-index}
 use Rattle.semantics.specs.Interpretations.{Grading}
 use Rattle.semantics.specs.Books.{Book, membershipIndividuals, linkIndividuals, individuals, Valid, MeetsMembership, MeetsLink, RuleModel, MeetsClaims, RulesSatisfiable, Satisfiable}
@@ -21,17 +21,22 @@ use Rattle.elimination.proofs.Survivors.{survivors-ascending}
 use Rattle.elimination.proofs.Complete.{complete, link-of-types}
 use Rattle.elimination.proofs.Listed.{listed-has, listed-meets}
 use Rattle.placement.specs.Dictionary.{Drawn, Foremost, Nowhere, Finds}
-use Rattle.placement.specs.Outcome.{seat, survivorsOf, HoldsMembership, HoldsLink, HoldsAt, holds?, placement, outcomeOf, outcome, placedTypes}
+use Rattle.placement.specs.Outcome.{seat, survivorsOf, HoldsMembership, HoldsLink, HoldsAt, holds?, placementAmong, placement, outcomeOf, outcome, placedTypes}
 use Rattle.placement.proofs.Dictionary.{seek-finds}
 
 module _ (B : Book) where
   abbrev G : Grading
   G = B .grading
 
-  -- the placement is the first at survivors that meets the claims, or there is none
+  -- the first at the candidates in xs that meets the claims, or there is none
+  pub among-finds : (xs : List ℕ) → Ascending 0 xs → Finds xs (individuals B) (HoldsAt B) (placementAmong B xs)
+  unfolding placementAmong
+  among-finds xs s = seek-finds (λ p. holds? B (seat p)) xs s (individuals B)
+
+  -- and so the placement at survivors
   pub placement-finds : Finds (survivorsOf B) (individuals B) (HoldsAt B) (placement B)
   unfolding placement
-  placement-finds = seek-finds (λ p. holds? B (seat p)) (survivorsOf B) (survivors-ascending G (B .rules)) (individuals B)
+  placement-finds = among-finds (survivorsOf B) (survivors-ascending G (B .rules))
 
   pub placement-first : (p : List ℕ) → placement B ≡ some p → Foremost (survivorsOf B) (individuals B) (HoldsAt B) p
   placement-first p e = subst (Finds (survivorsOf B) (individuals B) (HoldsAt B)) e placement-finds

@@ -45,11 +45,16 @@ module _ (B : Book) where
       dec-and (each? (λ q. claimed? (q .sense) (q .grade) (gradeIn (B .grading) (s (q .individual)) (q .term))) (B .memberships))
       (each? (λ q. decLe (q .grade) (link (B .grading) (q .role) (s (q .source)) (s (q .target)))) (B .links))
 
-  -- "the placement: .. the first in dictionary order, individual 0 leading: every other placement at survivors that meets the claims comes
-  -- later"; none where there is none
-  unfoldable pub placement : Option (List ℕ)
+  -- "the first in dictionary order, individual 0 leading", of the placements at the candidates in xs, ascending, that meet the claims; none where
+  -- there is none. Rules play no part in it.
+  unfoldable pub placementAmong : (xs : List ℕ) → Option (List ℕ)
   unfolding seek
-  placement = seek (λ p. holds? (seat p)) survivorsOf (individuals B)
+  placementAmong xs = seek (λ p. holds? (seat p)) xs (individuals B)
+
+  -- "the placement: .. every other placement at survivors that meets the claims comes later"
+  unfoldable pub placement : Option (List ℕ)
+  unfolding placementAmong
+  placement = placementAmong survivorsOf
 
   abbrev pub outcomeOf : List ℕ → Option (List ℕ) → ℕ
   outcomeOf [] p = 3

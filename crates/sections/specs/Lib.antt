@@ -1,3 +1,4 @@
 pub mod Terms
 pub mod Rules
 pub mod Claims
+pub mod Books
