@@ -7,7 +7,7 @@ use Prim.Native.Nat.{ℕ, _≤_, _<_}
 use native.Mathlib.Omega.{arith}
 use lib.ListN.{length}
 use Rattle.chain.specs.Questions.{firstNo}
-use Rattle.chain.proofs.Questions.{first-empty, first-yes, first-no, first-none, first-some-append, first-none-append}
+use Rattle.chain.proofs.Questions.{first-empty, first-yes, first-no, first-none, first-some-append, first-none-append, first-both}
 use Rattle.semantics.specs.Interpretations.{Grading, graded}
 use Rattle.semantics.specs.Candidates.{candidates}
 use Rattle.sections.specs.Terms.{TermsRight, termsOf}
@@ -188,6 +188,12 @@ counted-candidates b k = go (firstNo (candidateQuestions b)) refl
         → (firstNo (candidateQuestions b) ≡ none) × (candidates (bookOf b .grading) ≡ k)
     go none e h = (e, cc)
     go (some n) e h = let z : _≡_ {A = ℕ} 0 1 = cc in absurd (omega arith)
+
+-- so there are few
+pub counted-small : (b : List ℕ) (k : ℕ) → countedOf b ≡ Candidates k → k ≤ 16384
+counted-small b k h =
+    let e = counted-candidates b k h in
+    omega (arith, e .1, first-none 10 (fewCandidates? b) [] (first-both (bookQuestions b) _ (e .0) .1) .0)
 
 pub counted-declined : (b : List ℕ) (n : ℕ) → countedOf b ≡ Declined n → firstNo (candidateQuestions b) ≡ some n
 unfolding countedOf

@@ -4,13 +4,13 @@ use mathlib.Core.Path.{_≡_, refl, sym, ap, ap₂, subst, _∙_}
 use mathlib.Core.Logic.{_⊎_, inl, inr, ⊎-elim, ite, _↔_}
 use mathlib.Core.List.{List, [], _∷_, _++_, flatMap, append-nil, append-assoc}
 use Prim.Native.Nat.{ℕ, zero, suc, _+_, _≤_, _<_, max}
-use native.Mathlib.Nat.{not-suc-le-zero}
+use native.Mathlib.Nat.{not-suc-le-zero, add-zero, zero-add, suc-add, add-suc}
 use native.Mathlib.Decide.{ℕ-discrete}
 use native.Mathlib.Numerals.{add-one}
 use native.Mathlib.Omega.{arith}
 use lib.ListN.{length, getD, take, drop, set, length-append, length-drop}
 use lib.Seq.{append-snoc, drop-cons, drop-length, set-at, take-at}
-use Rattle.chain.specs.Search.{First, first}
+use Rattle.chain.specs.Search.{First, first, rank}
 use Rattle.chain.specs.Lists.{Mem, Each, highest, table, keep, from, Ascending, index}
 use Rattle.chain.proofs.Search.{below-cases}
 
@@ -119,6 +119,12 @@ module _ {A : Type 0} where
   -- all of it overwritten
   pub table-filled : (f : ℕ → A) (n : ℕ) (d l : List A) → l ≡ table f n ++ drop n d → n ≡ length d → l ≡ table f (length d)
   table-filled f n d l e h = e ∙ rw (h, drop-length, append-nil)
+
+  -- and no more than what none passes
+  pub highest-most : (f : A → ℕ) (g : ℕ → A) (n m : ℕ) → ((i : ℕ) → i < n → f (g i) ≤ m) → highest f (table g n) ≤ m
+  unfolding table highest
+  highest-most f g zero m h = omega arith
+  highest-most f g (suc n) m h = omega (arith, h zero (omega arith), highest-most f (λ i. g (suc i)) n m (λ i l. h (suc i) (omega arith)))
 
   pub highest-at : (f : A → ℕ) (g : ℕ → A) (n i : ℕ) → i < n → f (g i) ≤ highest f (table g n)
   unfolding highest table
@@ -288,3 +294,20 @@ ascending-same b (x ∷ xs) (y ∷ ys) s t e =
       λ m. ⊎-elim (λ q. absurd (omega (arith, ascending-mem (suc x) xs (s .1) c m))) (λ n. n) (e c .0 (inr m)),
       λ m. ⊎-elim (λ q. absurd (omega (arith, ascending-mem (suc y) ys (t .1) c m))) (λ n. n) (e c .1 (inr m)),
     )))
+
+-- as many numbers are kept as the rank says
+pub length-keep-from : {P : ℕ → Type 0} (p : (x : ℕ) → Dec (P x)) (n : ℕ) → length (keep p (from 0 n)) ≡ rank p n
+unfolding keep from rank
+length-keep-from {P} p n = omega (arith, go 0 n, ap (rank p) (zero-add n), none)
+  where
+    none : rank p 0 ≡ 0
+    none = refl
+
+    go : (a m : ℕ) → length (keep p (from a m)) + rank p a ≡ rank p (a + m)
+    go a zero = rw (add-zero a) (omega arith)
+    go a (suc m) = at (p a) (go (suc a) m)
+      where
+        at : (d : Dec (P a)) → length (keep p (from (suc a) m)) + ite d (suc (rank p a)) (rank p a) ≡ rank p (suc a + m)
+            → length (ite {C = List ℕ} d (a ∷ keep p (from (suc a) m)) (keep p (from (suc a) m))) + rank p a ≡ rank p (a + suc m)
+        at (yes _) h = omega (arith, ap (rank p) (suc-add a m ∙ sym (add-suc a m)))
+        at (no _) h = omega (arith, ap (rank p) (suc-add a m ∙ sym (add-suc a m)))

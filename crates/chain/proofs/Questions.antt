@@ -1,6 +1,6 @@
 -- Laws of questions in order: a yes passes on to the rest, a no is the answer, and where there is none each question says yes.
 -- Assumes nothing.
-use mathlib.Core.Path.{_≡_, refl}
+use mathlib.Core.Path.{_≡_, refl, sym, _∙_}
 use mathlib.Core.Bool.{Bool, true, false}
 use mathlib.Core.Option.{Option, none, some}
 use mathlib.Core.List.{List, [], _∷_, _++_}
@@ -54,3 +54,11 @@ first-none-append (q ∷ qs) rs e = go (q .answer) (first-none-append qs rs) e
         → (let o : Option ℕ = elim b [ true ↦ firstNo (qs ++ rs) | false ↦ some (q .number) ] in o ≡ firstNo rs)
     go true ih h = ih h
     go false ih h = let z : _≡_ {A = ℕ} 0 1 = cc in absurd (omega arith)
+
+-- all say yes where both lists do, and only there
+pub first-both : (qs rs : List Question) → firstNo (qs ++ rs) ≡ none → (firstNo qs ≡ none) × (firstNo rs ≡ none)
+first-both qs rs e = go (firstNo qs) refl
+  where
+    go : (o : Option ℕ) → firstNo qs ≡ o → (firstNo qs ≡ none) × (firstNo rs ≡ none)
+    go none f = (f, sym (first-none-append qs rs f) ∙ e)
+    go (some n) f = let z = sym (first-some-append qs rs n f) ∙ e in let y : _≡_ {A = ℕ} 0 1 = cc in absurd (omega arith)

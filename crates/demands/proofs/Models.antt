@@ -9,7 +9,7 @@ use Rattle.semantics.specs.Books.{Satisfiable, RulesSatisfiable}
 use Rattle.book.specs.Reading.{bookOf}
 use Rattle.book.specs.Opening.{Accepts}
 use Rattle.book.proofs.Reading.{accepts-valid}
-use Rattle.demands.specs.Demand3.{outcome-1-holds-together, outcome-2-claims-fail, outcome-3-no-model}
+use Rattle.demands.specs.Types.{outcome-1-holds-together, outcome-2-claims-fail, outcome-3-no-model}
 use Rattle.demands.specs.Readings.{Answer, books-accepted, books-read, printed, underSome, someBottom}
 
 -- entry k of a table's theorem

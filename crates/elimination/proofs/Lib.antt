@@ -1,3 +1,4 @@
 pub mod Survivors
 pub mod Complete
 pub mod Listed
+pub mod Marks

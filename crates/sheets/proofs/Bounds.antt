@@ -4,7 +4,7 @@ use mathlib.Core.Logic.{⊎-elim}
 use Prim.Native.Nat.{ℕ, _*_, _≤_, _<_}
 use native.Mathlib.Nat.{mul-le-mul, mul-le-mul-left, le-mul-of-pos-right, eq-zero-or-pos}
 use native.Mathlib.Omega.{arith}
-use Rattle.sheets.specs.Layout.{Indexable}
+use Rattle.sheets.specs.Layout.{endAt, Indexable}
 use Rattle.sheets.specs.declared.Shape.{Shape}
 
 -- a head's counts are bytes
@@ -18,3 +18,7 @@ bytes-indexable p n a r i =
 -- r rows are no more than r squares
 pub rows-le : (r n : ℕ) → r * n ≤ r * (n * n)
 rows-le r n = mul-le-mul-left r (⊎-elim (λ z. omega arith) (λ l. le-mul-of-pos-right n l) (eq-zero-or-pos n))
+
+-- the counts that a book allows leave each of a sheet's offsets in two bytes
+pub few-end : (p : Shape) → p .elements ≤ 64 → p .names ≤ 16 → p .roles ≤ 8 → p .individuals ≤ 8 → endAt p ≤ 33812
+few-end p n a r i = omega (arith, mul-le-mul n a, mul-le-mul r (mul-le-mul n n))

@@ -1,0 +1,114 @@
+-- What deciding a book answers, and what it leaves in the marks and in the placement: after the checks 1 to 10, 11 and then 12. Document 01,
+-- "Types and links" and "Deciding, then".
+-- Assumes nothing.
+use mathlib.Core.Path.{_≡_}
+use mathlib.Core.Logic.{_⊎_}
+use mathlib.Core.Option.{Option, none, some}
+use mathlib.Core.List.{List, [], _∷_, _++_, flatMap}
+use Prim.Native.Nat.{ℕ, _*_, _≤_}
+use native.Mathlib.Decide.{decLe}
+use lib.ListN.{length, take, drop}
+use Rattle.chain.specs.Lists.{table, index}
+use Rattle.chain.specs.Questions.{Question, ask, firstNo}
+use Rattle.semantics.specs.Interpretations.{Interpretation}
+use Rattle.semantics.specs.Books.{Book, individuals}
+use Rattle.semantics.specs.Candidates.{candidates}
+use Rattle.book.specs.Reading.{bookOf}
+use Rattle.book.specs.Layout.{wordAt}
+use Rattle.book.specs.Opening.{Accepts, candidateQuestions}
+use Rattle.book.specs.Writing.{wordBytes}
+use Rattle.elimination.specs.Listed.{typesIn}
+use Rattle.elimination.specs.Marks.{marksOf, marked}
+use Rattle.placement.specs.Outcome.{seat, survivorsOf, placement, outcome}
+use Rattle.decider.specs.declared.Decision.{Decision}
+use Rattle.decider.specs.declared.Decision.the-variants.{Refused, Decided}
+
+-- ---- of an abstract book
+
+-- "the outcome and the number of survivors"
+abbrev pub decision : Book → Decision
+decision B = Decided (outcome B) (length (survivorsOf B))
+
+-- "one mark byte per candidate (1 survivor, 0 not)"; the bytes past them are kept
+abbrev pub markedIn : Book → (marks : List ℕ) → List ℕ
+markedIn B marks = marksOf (survivorsOf B) (candidates (B .grading)) ++ drop (candidates (B .grading)) marks
+
+-- "the placement: two bytes per individual"; the bytes past it are kept, and all where there is none
+abbrev pub placedIn : Option (List ℕ) → (buffer : List ℕ) → List ℕ
+placedIn none buffer = buffer
+placedIn (some p) buffer = flatMap wordBytes p ++ drop (2 * length p) buffer
+
+-- ---- of a book's bytes
+
+module _ (b : List ℕ) where
+  -- with m mark bytes and p placement bytes: "Has the marks buffer a byte for each?" "Has the placement buffer 16 bytes?"
+  abbrev pub decideQuestions : (m p : ℕ) → List Question
+  decideQuestions m p = candidateQuestions b ++ (ask 11 (decLe (candidates (bookOf b .grading)) m) ∷ ask 12 (decLe 16 p) ∷ [])
+
+  -- the decision, where no question says no
+  abbrev pub decided : Option ℕ → Decision
+  decided none = decision (bookOf b)
+  decided (some n) = Refused n
+
+  unfoldable pub decisionOf : (m p : ℕ) → Decision
+  decisionOf m p = decided (firstNo (decideQuestions m p))
+
+  -- the marks; "A refusal changes no buffer"
+  abbrev pub marksBy : Option ℕ → List ℕ → List ℕ
+  marksBy none marks = markedIn (bookOf b) marks
+  marksBy (some n) marks = marks
+
+  unfoldable pub marksAfter : (p : ℕ) → List ℕ → List ℕ
+  marksAfter p marks = marksBy (firstNo (decideQuestions (length marks) p)) marks
+
+  -- the placement, "for outcome 1 only" (`kept-without-outcome-1` of proofs/Deciding)
+  abbrev pub placementBy : Option ℕ → List ℕ → List ℕ
+  placementBy none buffer = placedIn (placement (bookOf b)) buffer
+  placementBy (some n) buffer = buffer
+
+  unfoldable pub placementAfter : (m : ℕ) → List ℕ → List ℕ
+  placementAfter m buffer = placementBy (firstNo (decideQuestions m (length buffer))) buffer
+
+-- the seats hold the placement, where the outcome is 1
+unfoldable pub Seated : (b seats : List ℕ) → Type 0
+Seated b seats = outcome (bookOf b) ≡ 1 → placement (bookOf b) ≡ some (take (individuals (bookOf b)) seats)
+
+-- the document's number for each answer
+abbrev pub decisionNumber : Decision → Option ℕ
+decisionNumber (Refused n) = some n
+decisionNumber (Decided o k) = none
+
+-- its outcome and its number of survivors; 0 for a refusal
+abbrev pub outcomeIn : Decision → ℕ
+outcomeIn (Refused n) = 0
+outcomeIn (Decided o k) = o
+
+abbrev pub survivorsIn : Decision → ℕ
+survivorsIn (Refused n) = 0
+survivorsIn (Decided o k) = k
+
+-- ---- "Words of demand 3"
+
+-- "A book is accepted when all checks under "Every call on a book" say yes. The buffers suffice when 11 and 12 say yes."
+pub record Decidable (b : List ℕ) (m p : ℕ) : Type 0 where
+  pub accepted : Accepts b
+  pub few : candidates (bookOf b .grading) ≤ 16384
+  pub marks-suffice : candidates (bookOf b .grading) ≤ m
+  pub placement-suffices : 16 ≤ p
+
+-- "Unsatisfiable is outcome 2 or 3, yes is outcome 1."
+abbrev pub CalledUnsatisfiable : Decision → Type 0
+CalledUnsatisfiable d = (outcomeIn d ≡ 2) ⊎ (outcomeIn d ≡ 3)
+
+-- "The listed types are those of the candidates marked 1, by ascending candidate number."
+abbrev pub listedBy : (b marks : List ℕ) → List ℕ
+listedBy b marks = marked marks (candidates (bookOf b .grading))
+
+-- the placement that a buffer holds for n individuals: "two bytes per individual"
+abbrev pub placementIn : (buffer : List ℕ) (n : ℕ) → List ℕ
+placementIn buffer n = table (λ j. wordAt buffer (2 * j)) n
+
+-- "Their interpretation has one element for each ..; individuals sit as placed", as the two buffers say
+abbrev pub interpretationIn : (b marks buffer : List ℕ) → Interpretation
+interpretationIn b marks buffer =
+    typesIn (bookOf b .grading) (listedBy b marks) (λ j. index (listedBy b marks) (seat (placementIn buffer (individuals (bookOf b))) j))

@@ -1,0 +1,213 @@
+// Decides a book: the survivors by elimination, then the first placement of its individuals at them.
+ghost use mathlib.Core.Path.{_≡_};
+ghost use mathlib.Core.List.{_++_, flatMap};
+ghost use Prim.Native.Nat.{_+_, _*_, _/_, _%_, _<_, _≤_};
+ghost use lib.ListN.{length, set, take, drop};
+ghost use Rattle.semantics.specs.Books.{individuals as individualsOf};
+ghost use Rattle.semantics.specs.Candidates.{candidates};
+ghost use Rattle.book.specs.Opening.{Right, countedOf};
+ghost use Rattle.book.specs.Reading.{bookOf};
+ghost use Rattle.book.specs.Writing.{wordBytes};
+ghost use Rattle.book.specs.declared.Counted.the-variants.{Candidates};
+ghost use Rattle.elimination.specs.Marks.{marksOf, marked};
+ghost use Rattle.placement.specs.Outcome.{survivorsOf, placement as placementOf, outcome};
+ghost use Rattle.placer.specs.Walk.{placed};
+ghost use Rattle.decider.specs.Deciding.{decision, markedIn, placedIn, decisionOf, marksAfter, placementAfter, Seated};
+use book::Counted;
+use book::Opened;
+use book::Sections;
+
+// The number of the first check that says no, or the outcome and the number of survivors.
+pub enum Decision {
+    Refused(u8),
+    Decided(u8, usize),
+}
+
+// ---- the placement's bytes
+
+// Writes a two-byte number, the high byte first.
+fn write_word(b: &mut [u8], at: usize, v: u16)
+    requires { ⌜ at + 1 < length (now b) ⌝ }
+    ensures { λ _. ⌜ now (b .exit) ≡ set (set (now (b .entry)) at (v / 256)) (at + 1) (v % 256) ⌝ }
+{
+    b[at] = (v / 256) as u8;
+    b[at + 1] = (v % 256) as u8;
+}
+
+// Writes a placement, two bytes per individual.
+fn write_placement(seats: &[u16], placement: &mut [u8])
+    requires { ⌜ 2 * length (now seats) ≤ length (now placement) ⌝ }
+    ensures { λ _. ⌜ now (placement .exit) ≡ flatMap wordBytes (now (seats .entry)) ++ drop (2 * length (now (seats .entry))) (now (placement .entry)) ⌝ }
+{
+    let count = seats.len();
+    let mut i = 0;
+    while i < count {
+        write_word(placement, 2 * i, seats[i]);
+        i += 1;
+    }
+}
+
+// ---- an accepted book, its sections handed on as stretches
+
+// Marks the survivors among the candidates, and counts them.
+fn mark(b: &[u8], s: Sections, count: usize, marks: &mut [u8]) -> usize
+    requires { ⌜ Right (now b) s ⌝ }
+    requires { ⌜ (candidates (bookOf (now b) .grading) ≡ count) × (count ≤ 16384) × (count ≤ length (now marks)) ⌝ }
+    ensures { λ r. ⌜ r ≡ length (survivorsOf (bookOf (now (b .entry)))) ⌝ }
+    ensures { λ _. ⌜ now (marks .exit) ≡ markedIn (bookOf (now (b .entry))) (now (marks .entry)) ⌝ }
+{
+    let terms = s.terms;
+    let rules = s.rules;
+    let memberships = s.memberships;
+    eliminator::eliminate(
+        &b[terms..rules],
+        &b[rules..memberships],
+        s.steps,
+        count,
+        marks,
+    )
+}
+
+// The first placement of the individuals at the survivors, where there is one.
+fn seat(
+    b: &[u8],
+    s: Sections,
+    count: usize,
+    marks: &[u8],
+    individuals: usize,
+    seats: &mut [u16],
+) -> bool
+    requires { ⌜ Right (now b) s ⌝ }
+    requires { ⌜ (count ≤ 16384) × (count ≤ length (now marks)) × (marked (now marks) count ≡ survivorsOf (bookOf (now b))) ⌝ }
+    requires { ⌜ (individuals ≡ individualsOf (bookOf (now b))) × (individuals ≤ length (now seats)) ⌝ }
+    ensures { λ r. ⌜ placed r (take individuals (now (seats .exit))) ≡ placementOf (bookOf (now (b .entry))) ⌝ }
+{
+    let terms = s.terms;
+    let rules = s.rules;
+    let memberships = s.memberships;
+    let links = s.links;
+    let end = s.end;
+    placer::place(
+        &b[terms..rules],
+        s.steps,
+        &b[memberships..links],
+        &b[links..end],
+        marks,
+        count,
+        individuals,
+        seats,
+    )
+}
+
+// How many individuals the claims are about.
+fn individuals_in(b: &[u8], s: Sections) -> usize
+    requires { ⌜ Right (now b) s ⌝ }
+    ensures { λ r. ⌜ (r ≡ individualsOf (bookOf (now (b .entry)))) × (r ≤ 8) ⌝ }
+{
+    let memberships = s.memberships;
+    let links = s.links;
+    let end = s.end;
+    counts::count_individuals(&b[memberships..links], &b[links..end])
+}
+
+// Places the individuals at the survivors that are marked, and writes the placement: outcome 1, or 2 where there is none.
+fn place_individuals(
+    b: &[u8],
+    s: Sections,
+    count: usize,
+    marks: &[u8],
+    placement: &mut [u8],
+    seats: &mut [u16],
+) -> u8
+    requires { ⌜ Right (now b) s ⌝ }
+    requires { ⌜ (count ≤ 16384) × (count ≤ length (now marks)) × (marked (now marks) count ≡ survivorsOf (bookOf (now b))) ⌝ }
+    requires { ⌜ (0 < length (survivorsOf (bookOf (now b)))) × (16 ≤ length (now placement)) × (8 ≤ length (now seats)) ⌝ }
+    ensures { λ r. ⌜ r ≡ outcome (bookOf (now (b .entry))) ⌝ }
+    ensures { λ _. ⌜ now (placement .exit) ≡ placedIn (placementOf (bookOf (now (b .entry)))) (now (placement .entry)) ⌝ }
+    ensures { λ _. ⌜ Seated (now (b .entry)) (now (seats .exit)) ⌝ }
+{
+    let individuals = individuals_in(b, s);
+    if !seat(b, s, count, marks, individuals, seats) {
+        return 2;
+    }
+    write_placement(&seats[..individuals], placement);
+    1
+}
+
+// Decides, where every check says yes.
+fn decide_checked(
+    b: &[u8],
+    s: Sections,
+    count: usize,
+    marks: &mut [u8],
+    placement: &mut [u8],
+    seats: &mut [u16],
+) -> Decision
+    requires { ⌜ Right (now b) s ⌝ }
+    requires { ⌜ (candidates (bookOf (now b) .grading) ≡ count) × (count ≤ 16384) × (count ≤ length (now marks)) ⌝ }
+    requires { ⌜ (16 ≤ length (now placement)) × (8 ≤ length (now seats)) ⌝ }
+    ensures { λ r. ⌜ r ≡ decision (bookOf (now (b .entry))) ⌝ }
+    ensures { λ _. ⌜ now (marks .exit) ≡ markedIn (bookOf (now (b .entry))) (now (marks .entry)) ⌝ }
+    ensures { λ _. ⌜ now (placement .exit) ≡ placedIn (placementOf (bookOf (now (b .entry)))) (now (placement .entry)) ⌝ }
+    ensures { λ _. ⌜ Seated (now (b .entry)) (now (seats .exit)) ⌝ }
+{
+    let survivors = mark(b, s, count, marks);
+    if survivors == 0 {
+        return Decision::Decided(3, 0);
+    }
+    let outcome = place_individuals(b, s, count, marks, placement, seats);
+    Decision::Decided(outcome, survivors)
+}
+
+// Checks 11 and 12, and decides. The seats take the placement as numbers.
+pub fn decide_counted(
+    b: &[u8],
+    s: Sections,
+    k: u64,
+    marks: &mut [u8],
+    placement: &mut [u8],
+    seats: &mut [u16],
+) -> Decision
+    requires { ⌜ Right (now b) s ⌝ }
+    requires { ⌜ countedOf (now b) ≡ Candidates k ⌝ }
+    requires { ⌜ 8 ≤ length (now seats) ⌝ }
+    ensures { λ r. ⌜ r ≡ decisionOf (now (b .entry)) (length (now (marks .entry))) (length (now (placement .entry))) ⌝ }
+    ensures { λ _. ⌜ now (marks .exit) ≡ marksAfter (now (b .entry)) (length (now (placement .entry))) (now (marks .entry)) ⌝ }
+    ensures { λ _. ⌜ now (placement .exit) ≡ placementAfter (now (b .entry)) (length (now (marks .entry))) (now (placement .entry)) ⌝ }
+    ensures { λ r. ⌜ (r ≡ decision (bookOf (now (b .entry))) → Seated (now (b .entry)) (now (seats .exit))) ⌝ }
+{
+    let count = k as usize;
+    if marks.len() < count {
+        return Decision::Refused(11);
+    }
+    if placement.len() < 16 {
+        return Decision::Refused(12);
+    }
+    decide_checked(b, s, count, marks, placement, seats)
+}
+
+// Decides an accepted book whose sections are `s`: the checks 10 to 12 are made, and none before.
+pub fn decide_in(b: &[u8], s: Sections, marks: &mut [u8], placement: &mut [u8]) -> Decision
+    requires { ⌜ Right (now b) s ⌝ }
+    ensures { λ r. ⌜ r ≡ decisionOf (now (b .entry)) (length (now (marks .entry))) (length (now (placement .entry))) ⌝ }
+    ensures { λ _. ⌜ now (marks .exit) ≡ marksAfter (now (b .entry)) (length (now (placement .entry))) (now (marks .entry)) ⌝ }
+    ensures { λ _. ⌜ now (placement .exit) ≡ placementAfter (now (b .entry)) (length (now (marks .entry))) (now (placement .entry)) ⌝ }
+{
+    let mut seats = [0u16; 8];
+    match book::count_in(b, s) {
+        Counted::Refused(n) => Decision::Refused(n),
+        Counted::Candidates(k) => decide_counted(b, s, k, marks, placement, &mut seats),
+    }
+}
+
+// Decides a book: marks the survivors, and for outcome 1 writes the placement.
+pub fn decide(b: &[u8], marks: &mut [u8], placement: &mut [u8]) -> Decision
+    ensures { λ r. ⌜ r ≡ decisionOf (now (b .entry)) (length (now (marks .entry))) (length (now (placement .entry))) ⌝ }
+    ensures { λ _. ⌜ now (marks .exit) ≡ marksAfter (now (b .entry)) (length (now (placement .entry))) (now (marks .entry)) ⌝ }
+    ensures { λ _. ⌜ now (placement .exit) ≡ placementAfter (now (b .entry)) (length (now (marks .entry))) (now (placement .entry)) ⌝ }
+{
+    match book::open(b) {
+        Opened::Refused(n) => Decision::Refused(n),
+        Opened::Accepted(s) => decide_in(b, s, marks, placement),
+    }
+}

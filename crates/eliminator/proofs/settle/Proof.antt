@@ -1,0 +1,71 @@
+-- `eliminator::settle` meets its contract. Each sweep but the last leaves fewer marks.
+-- Assumes nothing.
+use mathlib.Core.Path.{_≡_, refl, sym}
+use native.Mathlib.Omega.{arith}
+use lib.ListN.{length}
+use Rattle.witnesses.specs.Tables.{tables}
+use Rattle.eliminator.specs.Sweeps.{State, Reduced}
+use Rattle.eliminator.proofs.Sweeps.{settled, ready-sized, state-sized, swept-sized, reduced-none, reduced-then}
+use Rattle.eliminator.proofs.settle.Statement.{statement}
+use Rattle.eliminator.proofs.settle.Tie as tie
+
+abbrev Inv-loop : tie.InvT-loop
+Inv-loop steps slots own child marks₀ memory₀ left rest₀ marks memory rest =
+    (length marks ≡ length marks₀) × (length memory ≡ length memory₀) × State (tables steps (length marks₀) slots own child) marks memory rest × Reduced (tables steps (length marks₀) slots own child) marks₀ marks
+
+abbrev μ-loop : tie.MeasureT-loop
+μ-loop steps slots own child marks₀ memory₀ left rest₀ marks memory rest =
+    rest
+
+loop-holds : tie.Need-loop-holds Inv-loop μ-loop
+loop-holds c =
+    let s = c .before .before .before .before .before in
+    (refl, refl, s .pre .1 .1, reduced-none (tables (s .args .steps) (length (s .args .marks .now)) (s .args .slots .now) (s .args .own .now) (s .args .child .now)) (s .args .marks .now))
+
+sweep-requires : tie.Need-sweep-requires Inv-loop μ-loop
+sweep-requires c κs =
+    let s = c .before .before .before .before .before .before .before .before in
+    let l = c .before .before .loop in
+    let p = s .pre .1 .0 in
+    (ready-sized (s .args .steps) (length (s .args .marks .now)) (length (l .marks)) (s .args .slots .now) (s .args .own .now) (s .args .child .now) (sym (l .inv .0)) (s .pre .0), (omega (arith, l .inv .0, l .inv .1), state-sized (s .args .steps) (length (s .args .marks .now)) (length (l .marks)) (s .args .slots .now) (s .args .own .now) (s .args .child .now) (sym (l .inv .0)) _ _ _ (l .inv .2)))
+
+same-length : tie.Need-same-length Inv-loop μ-loop
+same-length c = omega (arith, c .before .before .before .before .before .sweep .kept, c .before .before .before .before .before .before .before .before .loop .inv)
+
+same-length-2 : tie.Need-same-length-2 Inv-loop μ-loop
+same-length-2 c = omega (arith, c .before .before .before .before .before .sweep .kept, c .before .before .before .before .before .before .before .before .loop .inv)
+
+returns : tie.Need-returns Inv-loop μ-loop
+returns c =
+    let s = c .before .before .before .before .before .before .before .before .before .before .before .before .before .before in
+    let l = c .before .before .before .before .before .before .before .before .loop in
+    settled (tables (s .args .steps) (length (s .args .marks .now)) (s .args .slots .now) (s .args .own .now) (s .args .child .now)) (s .args .marks .now) (l .marks) _ _ (l .rest) _ (omega arith) (l .inv .3)
+    (state-sized (s .args .steps) (length (l .marks)) (length (s .args .marks .now)) (s .args .slots .now) (s .args .own .now) (s .args .child .now) (l .inv .0) _ _ _ (c .before .before .before .before .before .sweep .ensures .0)) (swept-sized (s .args .steps) (length (l .marks)) (length (s .args .marks .now)) (s .args .slots .now) (s .args .own .now) (s .args .child .now) (l .inv .0) _ _ _ _ (c .before .before .before .before .before .sweep .ensures .1))
+
+loop-less : tie.Need-loop-less Inv-loop μ-loop
+loop-less c = omega (arith, c .before .before .before .before .before .sweep .ensures .1 .fewer)
+
+loop-again : tie.Need-loop-again Inv-loop μ-loop
+loop-again c =
+    let s = c .before .before .before .before .before .before .before .before .before .before .before .before .before .before in
+    let l = c .before .before .before .before .before .before .before .before .loop in
+    let v = c .before .before .before .before .before .sweep in (
+      omega (arith, v .kept, l .inv .0),
+      omega (arith, v .kept, l .inv .1),
+      state-sized (s .args .steps) (length (l .marks)) (length (s .args .marks .now)) (s .args .slots .now) (s .args .own .now) (s .args .child .now) (l .inv .0) _ _ _ (v .ensures .0),
+      reduced-then (tables (s .args .steps) (length (s .args .marks .now)) (s .args .slots .now) (s .args .own .now) (s .args .child .now)) (s .args .marks .now) (l .marks) _ (l .inv .3) (swept-sized (s .args .steps) (length (l .marks)) (length (s .args .marks .now)) (s .args .slots .now) (s .args .own .now) (s .args .child .now) (l .inv .0) _ _ _ _ (v .ensures .1) .reduced),
+    )
+
+pub settle-spec : {M : Type 1} → statement M
+settle-spec =
+    tie.close
+    (tie.spec
+    Inv-loop
+    μ-loop
+    loop-holds
+    sweep-requires
+    same-length
+    same-length-2
+    returns
+    loop-less
+    loop-again)

@@ -1,0 +1,188 @@
+-- Laws of the table of rows: one row more, a name's grade in a row, and that the interpretation by rows agrees with that of the types.
+-- Assumes nothing.
+use mathlib.Core.Path.{_≡_, refl, sym, ap, _∙_}
+use mathlib.Core.Logic.{inl, inr, ⊎-elim}
+use mathlib.Core.List.{List, _++_, flatMap}
+use Prim.Native.Nat.{ℕ, _+_, _*_, _≤_, _<_}
+use native.Mathlib.Omega.{arith}
+use lib.ListN.{length, getD, take, drop, length-append, length-drop, List·getD-append}
+use lib.Seq.{length-take-le, getD-take, getD-drop, getD-append-add}
+use lib.Dec.{eqb}
+use borrow.Author.Count.{below-more}
+use Rattle.chain.specs.Decisions.{Tells}
+use Rattle.chain.specs.Search.{First}
+use Rattle.chain.specs.Lists.{table, index}
+use Rattle.chain.proofs.Decisions.{tells-map, tells-eq}
+use Rattle.chain.proofs.Lists.{length-table}
+use Rattle.semantics.specs.Terms.{Term, name, term}
+use Rattle.semantics.specs.Interpretations.{Grading, graded}
+use Rattle.semantics.specs.Candidates.{named?, bearer, gradeIn}
+use Rattle.sections.specs.Terms.{kindByte, aByte, kindAt, aAt, termCount, termsOf, TermsRight}
+use Rattle.sections.proofs.Terms.{term-kind, length-terms, term-at, terms-ordered}
+use Rattle.grades.specs.Rows.{rowOf}
+use Rattle.grades.proofs.Rows.{HasGrades, length-row, front-grades, linkOfRows-link}
+use Rattle.sheets.specs.Layout.{linksAt, individualsAt, endAt, Indexable}
+use Rattle.sheets.specs.Writing.{sheetBytes}
+use Rattle.sheets.specs.declared.Shape.{Shape}
+use Rattle.sheets.proofs.Bounds.{few-end}
+use Rattle.sheets.proofs.Agreement.{Agree}
+use Rattle.sheets.proofs.Writing.{sheet-same, length-blocks}
+use Rattle.models.specs.Rows.{Small, modelOf, rowAt, HoldsRows, nameIn, linkIn, rowsIn, namesBy, squareBy, linksBy, headBy}
+use Rattle.models.proofs.Listing.{first-found, first-missed}
+use Rattle.models.proofs.Filling.{pasted, paste-four}
+
+-- ---- the table
+
+pub length-rowAt : (rows : List ℕ) (e : ℕ) → e < 64 → 4096 ≤ length rows → length (rowAt rows e) ≡ 64
+length-rowAt rows e h l = length-take-le 64 (drop (64 * e) rows) (omega (arith, length-drop (64 * e) rows))
+
+-- one row more
+pub holds-more : (G : Grading) (xs : List ℕ) (e : ℕ) (rows row : List ℕ) → length (G .terms) ≤ 64 → length (G .terms) ≤ length row → 64 * e + 64 ≤ length rows
+    → HasGrades G (getD xs e 0) row → HoldsRows G xs e rows → HoldsRows G xs (e + 1) (pasted rows (64 * e) (64 * e + 64) row)
+holds-more G xs e rows row few long room has holds =
+    below-more (λ k. (i : ℕ) → i < length (G .terms) → getD (rowAt next k) i 0 ≡ gradeIn G (getD xs k 0) i) e
+    (λ k l i h. cell k i h ∙ before k i l h ∙ sym (at rows k i h) ∙ holds k l i h)
+    (λ i h. cell e i h ∙ own i h ∙ has i h)
+  where
+    next : List ℕ
+    next = pasted rows (64 * e) (64 * e + 64) row
+
+    front : length (take (64 * e) rows) ≡ 64 * e
+    front = length-take-le (64 * e) rows (omega arith)
+
+    at : (l : List ℕ) (k i : ℕ) → i < length (G .terms) → getD (rowAt l k) i 0 ≡ getD l (64 * k + i) 0
+    at l k i h = getD-take 64 (drop (64 * k) l) i 0 (omega arith) ∙ getD-drop (64 * k) l i 0
+
+    cell : (k i : ℕ) → i < length (G .terms) → getD (rowAt next k) i 0 ≡ getD next (64 * k + i) 0
+    cell = at next
+
+    before : (k i : ℕ) → k < e → i < length (G .terms) → getD next (64 * k + i) 0 ≡ getD rows (64 * k + i) 0
+    before k i l h =
+        List·getD-append (take (64 * e) rows) _ 0 (64 * k + i) (omega (arith, front)) ∙ getD-take (64 * e) rows (64 * k + i) 0 (omega arith)
+
+    own : (i : ℕ) → i < length (G .terms) → getD next (64 * e + i) 0 ≡ getD row i 0
+    own i h =
+        ap (λ (n : ℕ). getD next (n + i) 0) (sym front) ∙ getD-append-add (take (64 * e) rows) _ i 0 ∙ List·getD-append row _ 0 i (omega arith)
+
+-- .. as it is filled
+pub holds-next : (N : ℕ) (s xs : List ℕ) (e x : ℕ) (rows row rest : List ℕ) → termCount s ≤ 64 → 64 * e + 64 ≤ length rows → x ≡ getD xs e 0
+    → row ≡ rowOf (graded N (termsOf s)) x ++ rest → HoldsRows (graded N (termsOf s)) xs e rows
+    → HoldsRows (graded N (termsOf s)) xs (e + 1) (pasted rows (64 * e) (64 * e + 64) row)
+holds-next N s xs e x rows row rest few room is fill holds =
+    let G = graded N (termsOf s) in
+    holds-more G xs e rows row (omega (arith, length-terms s)) (rw fill (omega (arith, length-append (rowOf G x) rest, length-row G x))) room
+    (rw (fill, ← is) (front-grades G x rest)) holds
+
+-- ---- a term with a name, by its bytes
+
+module _ (s : List ℕ) (ok : TermsRight s) (i a : ℕ) (h : i < termCount s) where
+  pub name-not : ¬ (kindAt s i ≡ 0) → ¬ (term (termsOf s) i ≡ name a)
+  name-not n e = n (sym (ok i h .0 .1) ∙ ap kindByte (sym (term-at s i h) ∙ e))
+
+  pub name-tells : (x : ℕ) → kindAt s i ≡ 0 → x ≡ aAt s i → Tells (eqb x a) (term (termsOf s) i ≡ name a)
+  name-tells x k q =
+      tells-map (eqb x a) (λ e. term-at s i h ∙ term-kind s i 0 k ∙ ap name (sym q ∙ e))
+      (λ e. q ∙ sym (ok i h .0 .2) ∙ ap aByte (sym (term-at s i h) ∙ e)) (tells-eq x a)
+
+-- ---- a name's grade in a row
+
+module _ (ts : List Term) (a : ℕ) (row : List ℕ) where
+  pub name-found : (i : ℕ) → i < length ts → term ts i ≡ name a → ((j : ℕ) → j < i → ¬ (term ts j ≡ name a)) → getD row i 0 ≡ nameIn ts a row
+  unfolding nameIn
+  name-found i l e before = first-found (named? ts a) (length ts) (λ k. getD row k 0) 0 (bearer ts a) i l e before
+
+  pub name-missed : ((i : ℕ) → i < length ts → ¬ (term ts i ≡ name a)) → 0 ≡ nameIn ts a row
+  unfolding nameIn
+  name-missed h = first-missed (named? ts a) (length ts) (λ k. getD row k 0) 0 (bearer ts a) h
+
+-- ---- the interpretation by rows
+
+module _ (N : ℕ) (s : List ℕ) (ok : TermsRight s) (rows xs seats : List ℕ) (holds : HoldsRows (graded N (termsOf s)) xs (length xs) rows) where
+  abbrev G : Grading
+  G = graded N (termsOf s)
+
+  name-agrees : (a e : ℕ) → e < length xs → (w : First (named? (termsOf s) a) (length (termsOf s)))
+      → ⊎-elim (λ u. getD (rowAt rows e) (u .0) 0) (λ _. 0) w ≡ ⊎-elim (λ u. gradeIn G (getD xs e 0) (u .0)) (λ _. 0) w
+  name-agrees a e h (inl u) = holds e h (u .0) (u .1)
+  name-agrees a e h (inr f) = refl
+
+  rows-agree : (A R I : ℕ) → Agree A R I (modelOf N s xs seats) (rowsIn N s rows xs seats)
+  unfolding nameIn
+  rows-agree A R I = record {
+    size-same = refl;
+    names-same = λ a e _ h. name-agrees a e h (bearer (termsOf s) a);
+    links-same = λ r e f _ h g. linkOfRows-link N (termsOf s) (terms-ordered s ok) r (getD xs e 0) (getD xs f 0) _ _ (holds e h) (holds f g);
+    element-same = λ j _. refl;
+  }
+
+  -- so its sheet, at the front of a list, is that of the types
+  pub rows-sheet : (A R I : ℕ) (l rest : List ℕ) → l ≡ sheetBytes N A R I (rowsIn N s rows xs seats) ++ rest
+      → l ≡ sheetBytes N A R I (modelOf N s xs seats) ++ rest
+  rows-sheet A R I l rest e = e ∙ ap (λ (b : List ℕ). b ++ rest) (sheet-same N A R I _ _ (rows-agree A R I))
+
+-- ---- the layout
+
+module _ (p : Shape) (few : Small p) where
+  small-end : endAt p ≤ 33812
+  small-end = few-end p (few .elements-le) (few .names-le) (few .roles-le) (few .individuals-le)
+
+  pub small-indexable : Indexable p
+  small-indexable = omega (arith, small-end)
+
+  pub small-offsets : (linksAt p < 65536) × (individualsAt p < 65536)
+  small-offsets = omega (arith, small-end)
+
+-- ---- the bodies
+
+module _ (ts : List Term) (rows : List ℕ) (A : ℕ) where
+  -- one element's names
+  abbrev pub nameRow : ℕ → List ℕ
+  nameRow e = table (λ a. nameIn ts a (rowAt rows e)) A
+
+  pub length-nameRow : (e : ℕ) → length (nameRow e) ≡ A
+  length-nameRow e = length-table (λ a. nameIn ts a (rowAt rows e)) A
+
+module _ (N : ℕ) (ts : List Term) (rows : List ℕ) (n : ℕ) where
+  -- one element's links for a role
+  abbrev pub linkRow : ℕ → ℕ → List ℕ
+  linkRow r e = table (λ f. linkIn N ts rows r e f) n
+
+  pub length-linkRow : (r e : ℕ) → length (linkRow r e) ≡ n
+  length-linkRow r e = length-table (λ f. linkIn N ts rows r e f) n
+
+  pub length-square : (r : ℕ) → length (squareBy N ts rows n r) ≡ n * n
+  unfolding squareBy
+  length-square r = length-blocks (linkRow r) n (length-linkRow r) 0 n
+
+  pub length-linksBy : (R : ℕ) → length (linksBy N ts rows n R) ≡ R * (n * n)
+  unfolding linksBy
+  length-linksBy R = length-blocks (squareBy N ts rows n) (n * n) length-square 0 R
+
+length-namesBy : (ts : List Term) (rows : List ℕ) (A n : ℕ) → length (namesBy ts rows A n) ≡ n * A
+unfolding namesBy
+length-namesBy ts rows A n = length-blocks (nameRow ts rows A) A (length-nameRow ts rows A) 0 n
+
+length-headBy : (N : ℕ) (p : Shape) → length (headBy N p) ≡ 12
+unfolding flatMap
+length-headBy N p = refl
+
+-- ---- the whole sheet
+
+-- the head and the bodies are those of the interpretation by rows
+pub sheet-by : (N : ℕ) (s rows xs seats : List ℕ) (p : Shape) → p .elements ≡ length xs → p .individuals ≡ length seats
+    → headBy N p ++ namesBy (termsOf s) rows (p .names) (p .elements) ++ linksBy N (termsOf s) rows (p .elements) (p .roles)
+    ++ table (λ j. index xs (getD seats j 0)) (length seats) ≡ sheetBytes N (p .names) (p .roles) (p .individuals) (rowsIn N s rows xs seats)
+unfolding sheetBytes namesBy linksBy squareBy
+sheet-by N s rows xs seats p e i = rw (e, i)
+
+-- .. and the code's four stretches make it
+module _ (N : ℕ) (s rows xs seats : List ℕ) (p : Shape) (elements : p .elements ≡ length xs) (individuals : p .individuals ≡ length seats) where
+  pub sheet-written : (d h ns ls js : List ℕ) (l i e : ℕ) → h ≡ headBy N p → ns ≡ namesBy (termsOf s) rows (p .names) (p .elements)
+      → ls ≡ linksBy N (termsOf s) rows (p .elements) (p .roles) → js ≡ table (λ j. index xs (getD seats j 0)) (length seats) → l ≡ linksAt p → i ≡ individualsAt p
+      → e ≡ endAt p → pasted (pasted (pasted (pasted d 0 12 h) 12 l ns) l i ls) i e js
+      ≡ sheetBytes N (p .names) (p .roles) (p .individuals) (rowsIn N s rows xs seats) ++ drop (endAt p) d
+  sheet-written d h ns ls js l i e eh en el ej ql qi qe =
+      paste-four d h ns ls js l i e (ap length eh ∙ length-headBy N p)
+      (ap length en ∙ length-namesBy (termsOf s) rows (p .names) (p .elements) ∙ omega arith)
+      (ap length el ∙ length-linksBy N (termsOf s) rows (p .elements) (p .roles) ∙ omega arith) (omega arith) (omega arith) (omega arith)
+      ∙ rw (eh, en, el, ej, qe) (ap (λ (b : List ℕ). b ++ drop (endAt p) d) (sheet-by N s rows xs seats p elements individuals))

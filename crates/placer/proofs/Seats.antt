@@ -1,0 +1,173 @@
+-- Laws of seating: what the rows kept decide, what one individual more comes to, and the turns of the loop over candidates.
+-- Assumes nothing.
+use mathlib.Core.Path.{_≡_, refl, sym, ap, ap₂, subst, _∙_}
+use mathlib.Core.Logic.{⊎-elim, _↔_}
+use mathlib.Core.Option.{Option, none, some}
+use mathlib.Core.List.{List, [], _∷_, _++_, append-assoc}
+use Prim.Native.Nat.{ℕ, suc, _+_, _-_, _*_, _≤_, _<_}
+use native.Mathlib.Numerals.{add-one}
+use native.Mathlib.Omega.{arith}
+use lib.ListN.{length, getD, take, drop, set, List·getD-append}
+use lib.Seq.{take-suc, take-suc-set, take-set-le, take-take, drop-cons, getD-take, getD-drop, getD-append-add, getD-set-same, getD-set-other, length-take-le}
+use Rattle.chain.proofs.Search.{below-cases}
+use Rattle.semantics.specs.Books.{LinkClaim}
+use Rattle.semantics.specs.Candidates.{gradeIn}
+use Rattle.semantics.specs.Links.{link}
+use Rattle.sections.specs.Terms.{termCount, termsOf, TermsRight}
+use Rattle.sections.specs.Claims.{claimCount, linkAt, LinksRight}
+use Rattle.sections.proofs.Terms.{length-terms, terms-ordered}
+use Rattle.grades.specs.Rows.{rowOf}
+use Rattle.grades.proofs.Rows.{HasGrades, front-grades, rows-link}
+use Rattle.placement.specs.Outcome.{seat}
+use Rattle.placer.specs.Walk.{walk}
+use Rattle.placer.specs.Claims.{gradingOf, latest, LinkMet}
+use Rattle.placer.specs.Filter.{Allowed}
+use Rattle.placer.specs.Seats.{May, may?, walkOf, rowAt, LinkBy, Kept}
+use Rattle.placer.proofs.Walk.{rest, rest-start, rest-end, rest-not, rest-back, rest-found}
+
+-- ---- the seats of those before and of the next one
+
+pub seat-front : (p : List ℕ) (m x : ℕ) → m < length p → x ≤ m → seat (take m p ++ seat p m ∷ []) x ≡ seat p x
+seat-front p m x h l = ap (λ (q : List ℕ). seat q x) (sym (take-suc p m 0 h)) ∙ getD-take (suc m) p x 0 (omega arith)
+
+-- a link claim is met by other seats that are the same for those that it mentions
+pub link-same : (N : ℕ) (ts : List ℕ) (s t : ℕ → ℕ) (q : LinkClaim) → s (q .source) ≡ t (q .source) → s (q .target) ≡ t (q .target)
+    → LinkMet (gradingOf N ts) s q → LinkMet (gradingOf N ts) t q
+link-same N ts s t q e f h = subst (λ (x : ℕ). q .grade ≤ x) (ap₂ (λ (c d : ℕ). link (gradingOf N ts) (q .role) c d) e f) h
+
+-- ---- the rows kept
+
+-- a row that is kept, by the number that code reads for its individual
+pub row-part : (rows : List ℕ) (w j : ℕ) → w ≡ j → take (64 * w + 64 - 64 * w) (drop (64 * w) rows) ≡ rowAt rows j
+row-part rows w j e = let z : 64 * w + 64 - 64 * w ≡ 64 = omega arith in rw (z, e) refl
+
+module _ (N : ℕ) (ts : List ℕ) where
+  -- a row that is kept, as a row by itself
+  kept-row : (rows seats : List ℕ) (k : ℕ) → termCount ts ≤ 64 → Kept N ts rows seats k → (j : ℕ) → j < k
+      → HasGrades (gradingOf N ts) (getD seats j 0) (rowAt rows j)
+  kept-row rows seats k few h j l i m =
+      let n : i < termCount ts = rw (← length-terms ts) m in
+      getD-take 64 (drop (64 * j) rows) i 0 (omega arith) ∙ getD-drop (64 * j) rows i 0 ∙ h j l i n
+
+  pub kept-less : (rows seats : List ℕ) (k : ℕ) → Kept N ts rows seats (k + 1) → Kept N ts rows seats k
+  kept-less rows seats k h j l = h j (omega arith)
+
+  -- the next one's row is filled
+  pub kept-next : (rows seats new x y : List ℕ) (k c : ℕ) → 64 * k ≤ length rows → k < length seats → termCount ts ≤ 64
+      → new ≡ take (64 * k) rows ++ ((rowOf (gradingOf N ts) c ++ x) ++ y) → Kept N ts rows seats k → Kept N ts new (set seats k c) (k + 1)
+  kept-next rows seats new x y k c long in-seats few e h j l i m = ⊎-elim newest earlier (below-cases k j (rw (← add-one k) l))
+    where
+      front : length (take (64 * k) rows) ≡ 64 * k
+      front = length-take-le (64 * k) rows long
+
+      newest : j ≡ k → getD new (64 * j + i) 0 ≡ gradeIn (gradingOf N ts) (getD (set seats k c) j 0) i
+      newest z =
+          rw (z, getD-set-same seats k c 0 in-seats)
+          (ap (λ (q : List ℕ). getD q (64 * k + i) 0) e
+          ∙ ap (λ (s : ℕ). getD (take (64 * k) rows ++ ((rowOf (gradingOf N ts) c ++ x) ++ y)) (s + i) 0) (sym front)
+          ∙ getD-append-add (take (64 * k) rows) ((rowOf (gradingOf N ts) c ++ x) ++ y) i 0
+          ∙ ap (λ (q : List ℕ). getD q i 0) (append-assoc (rowOf (gradingOf N ts) c) x y)
+          ∙ front-grades (gradingOf N ts) c (x ++ y) i (rw (length-terms ts) m))
+
+      earlier : j < k → getD new (64 * j + i) 0 ≡ gradeIn (gradingOf N ts) (getD (set seats k c) j 0) i
+      earlier z =
+          ap (λ (q : List ℕ). getD q (64 * j + i) 0) e
+          ∙ List·getD-append (take (64 * k) rows) ((rowOf (gradingOf N ts) c ++ x) ++ y) 0 (64 * j + i) (omega (arith, front))
+          ∙ getD-take (64 * k) rows (64 * j + i) 0 (omega arith)
+          ∙ h j z i m
+          ∙ ap (λ (s : ℕ). gradeIn (gradingOf N ts) s i) (sym (getD-set-other seats k j c 0 (λ u. omega arith)))
+
+  -- the rows of those seated by v, the next one among them, decide the link claims
+  module _ (ls : List ℕ) (right : TermsRight ts) (links : LinksRight ls N) (few : termCount ts ≤ 64) (rows v : List ℕ) (k : ℕ)
+      (kept : Kept N ts rows v (k + 1)) where
+    by-rows : (i : ℕ) → i < claimCount ls → latest (linkAt ls i) ≡ k → LinkMet (gradingOf N ts) (seat v) (linkAt ls i) ↔ LinkBy N ts ls rows k i
+    by-rows i l e =
+        let u = rows-link N (termsOf ts) (terms-ordered ts right) (linkAt ls i .role) (seat v (linkAt ls i .source)) (seat v (linkAt ls i .target))
+        (rowAt rows (linkAt ls i .source)) (rowAt rows (linkAt ls i .target))
+        (kept-row rows v (k + 1) few kept (linkAt ls i .source) (omega arith)) (kept-row rows v (k + 1) few kept (linkAt ls i .target) (omega arith))
+        (linkAt ls i .grade) (links i l .1 .1 .1) in
+        (λ h _. u .1 h, λ f. u .0 (f e))
+
+-- ---- one turn of the loop over candidates: individual k next, of n, after those seated by q, which are the first k of the seats
+
+-- the rest of the search, from the candidate c on
+abbrev pub restOf : (N : ℕ) (ts ls table : List ℕ) (count n k : ℕ) (q : List ℕ) (c : ℕ) → Option (List ℕ)
+restOf N ts ls table count n k q c = rest (May N ts ls table) (may? N ts ls table) count (n - (k + 1)) q c
+
+module _ (N : ℕ) (ts ls table : List ℕ) (count n k : ℕ) (q : List ℕ) where
+  pub no-one-left : (p : List ℕ) → k ≡ n → some (take (n - k) p) ≡ walkOf N ts ls table count (n - k) q
+  unfolding walkOf walk
+  no-one-left p e = let z : n - k ≡ 0 = omega arith in rw z refl
+
+  pub loop-start : k < n → walkOf N ts ls table count (n - k) q ≡ restOf N ts ls table count n k q 0
+  unfolding walkOf
+  loop-start h = rest-start (May N ts ls table) (may? N ts ls table) count (n - (k + 1)) q (n - k) (omega arith)
+
+  module _ (W : Option (List ℕ)) (c : ℕ) (w : W ≡ restOf N ts ls table count n k q c) where
+    pub loop-end : count ≤ c → none ≡ W
+    loop-end h = sym (w ∙ rest-end (May N ts ls table) (may? N ts ls table) count (n - (k + 1)) q c h)
+
+    module _ (h : c < count) (seats : List ℕ) (in-seats : k < length seats) (same : take k seats ≡ q) where
+      len : length q ≡ k
+      len = ap length (sym same) ∙ length-take-le k seats (omega arith)
+
+      begins : take (k + 1) (set seats k c) ≡ q ++ c ∷ []
+      begins = rw add-one (take-suc-set seats k c in-seats) ∙ ap (λ (l : List ℕ). l ++ c ∷ []) same
+
+      sits : (x : ℕ) → x ≤ k → seat (q ++ c ∷ []) x ≡ seat (set seats k c) x
+      sits x l = ap (λ (p : List ℕ). seat p x) (sym begins) ∙ getD-take (k + 1) (set seats k c) x 0 (omega arith)
+
+      pub turn-disallowed : ¬ Allowed table k c → W ≡ restOf N ts ls table count n k q (c + 1)
+      turn-disallowed a =
+          w ∙ rest-not (May N ts ls table) (may? N ts ls table) count (n - (k + 1)) q c h
+          (λ m. a (subst (λ (j : ℕ). Allowed table j c) len (m .allowed)))
+
+      module _ (right : TermsRight ts) (links : LinksRight ls N) (few : termCount ts ≤ 64) (rows : List ℕ) (kept : Kept N ts rows (set seats k c) (k + 1)) where
+        met : (i : ℕ) → i < claimCount ls → latest (linkAt ls i) ≡ k → LinkMet (gradingOf N ts) (seat (q ++ c ∷ [])) (linkAt ls i) ↔ LinkBy N ts ls rows k i
+        met i l e =
+            let u = by-rows N ts ls right links few rows (set seats k c) k kept i l e in
+            let a : linkAt ls i .source ≤ k = omega arith in
+            let b : linkAt ls i .target ≤ k = omega arith in (
+              λ m. u .0 (link-same N ts (seat (q ++ c ∷ [])) (seat (set seats k c)) (linkAt ls i) (sits _ a) (sits _ b) m),
+              λ m. link-same N ts (seat (set seats k c)) (seat (q ++ c ∷ [])) (linkAt ls i) (sym (sits _ a)) (sym (sits _ b)) (u .1 m),
+            )
+
+        pub turn-unlinked : ¬ ((i : ℕ) → i < claimCount ls → LinkBy N ts ls rows k i) → W ≡ restOf N ts ls table count n k q (c + 1)
+        turn-unlinked b =
+            w ∙ rest-not (May N ts ls table) (may? N ts ls table) count (n - (k + 1)) q c h
+            (λ m. b (λ i l e. met i l e .0 (m .linked i l (e ∙ sym len)) e))
+
+        module _ (a : Allowed table k c) (b : (i : ℕ) → i < claimCount ls → LinkBy N ts ls rows k i) where
+          may : May N ts ls table q c
+          may = record {
+            allowed = subst (λ (j : ℕ). Allowed table j c) (sym len) a;
+            linked = λ i l e. met i l (e ∙ len) .1 (b i l);
+          }
+
+          pub turn-back : none ≡ walkOf N ts ls table count (n - (k + 1)) (take (k + 1) (set seats k c)) → W ≡ restOf N ts ls table count n k q (c + 1)
+          unfolding walkOf
+          turn-back e = w ∙ rest-back (May N ts ls table) (may? N ts ls table) count (n - (k + 1)) q c h may (rw (← begins) (sym e))
+
+          -- u are the seats then
+          pub turn-found : (u : List ℕ) → length u ≡ length seats → take (k + 1) u ≡ take (k + 1) (set seats k c) → k < n
+              → some (take (n - (k + 1)) (drop (k + 1) u)) ≡ walkOf N ts ls table count (n - (k + 1)) (take (k + 1) (set seats k c))
+              → some (take (n - k) (drop k u)) ≡ W
+          unfolding walkOf
+          turn-found u long first l e =
+              ap {B = Option (List ℕ)} some part
+              ∙ sym (w ∙ rest-found (May N ts ls table) (may? N ts ls table) count (n - (k + 1)) q c h may (take (n - (k + 1)) (drop (k + 1) u)) (rw (← begins) (sym e)))
+            where
+              here : getD u k 0 ≡ c
+              here =
+                  sym (getD-take (k + 1) u k 0 (omega arith)) ∙ ap (λ (p : List ℕ). getD p k 0) first ∙ getD-take (k + 1) (set seats k c) k 0 (omega arith)
+                  ∙ getD-set-same seats k c 0 in-seats
+
+              part : take (n - k) (drop k u) ≡ c ∷ take (n - (k + 1)) (drop (k + 1) u)
+              part =
+                  let z : n - k ≡ suc (n - (k + 1)) = omega arith in
+                  rw (z, drop-cons u k 0 (omega arith), here, add-one k) refl
+
+-- the first k of the seats stay where one after them is set and the first k + 1 stay
+pub seats-kept : (seats u : List ℕ) (k c : ℕ) → take (k + 1) u ≡ take (k + 1) (set seats k c) → take k u ≡ take k seats
+seats-kept seats u k c e =
+    sym (take-take k (k + 1) u (omega arith)) ∙ ap (take k) e ∙ take-take k (k + 1) (set seats k c) (omega arith) ∙ take-set-le k seats k c (omega arith)

@@ -1,0 +1,37 @@
+-- `placer::place` meets its contract.
+-- Assumes nothing.
+use mathlib.Core.Path.{sym}
+use Prim.Native.Nat.{ℕ}
+use native.Mathlib.Nat.{le-of-eq}
+use lib.ListN.{length-replicate}
+use borrow.Author.Needs.{needs}
+use Rattle.placer.proofs.Placing.{zero-at}
+use Rattle.placer.proofs.place.Statement.{statement}
+use Rattle.placer.proofs.place.Tie as tie
+
+slice-aggregate-place-in : tie.Need-slice-aggregate-place-in
+slice-aggregate-place-in c = search needs
+
+slice-aggregate-place-in-2 : tie.Need-slice-aggregate-place-in-2
+slice-aggregate-place-in-2 c = search needs
+
+place-in-requires : tie.Need-place-in-requires
+place-in-requires c κs =
+    let s = c .before .before .before .before .before .before .before .before in
+    (s .pre .0, (s .pre .1 .0, (s .pre .1 .1 .0, (s .pre .1 .1 .1 .0, (s .pre .1 .1 .1 .1, (le-of-eq (sym (length-replicate {A = ℕ} 131072 0)), zero-at 131072, le-of-eq (sym (length-replicate {A = ℕ} 512 0))))))))
+
+same-length : tie.Need-same-length
+same-length c = search needs
+
+returns : tie.Need-returns
+returns c = search needs
+
+pub place-spec : {M : Type 1} → statement M
+place-spec =
+    tie.close
+    (tie.spec
+    slice-aggregate-place-in
+    slice-aggregate-place-in-2
+    place-in-requires
+    same-length
+    returns)

@@ -1,0 +1,37 @@
+-- Claims on placed individuals: those that mention one individual alone, and those that mention several.
+-- Assumes nothing.
+use mathlib.Core.Path.{_≡_}
+use mathlib.Core.List.{List}
+use Prim.Native.Nat.{ℕ, _≤_, _<_, max}
+use lib.ListN.{length, getD}
+use Rattle.semantics.specs.Interpretations.{Grading, graded}
+use Rattle.semantics.specs.Books.{MembershipClaim, LinkClaim, Claimed}
+use Rattle.semantics.specs.Candidates.{gradeIn}
+use Rattle.semantics.specs.Links.{link}
+use Rattle.sections.specs.Terms.{termCount, termsOf}
+use Rattle.sections.specs.Claims.{claimCount, membershipAt, linkAt}
+
+-- the grading of a section of terms on N steps
+abbrev pub gradingOf : (N : ℕ) (terms : List ℕ) → Grading
+gradingOf N ts = graded N (termsOf ts)
+
+-- the row begins with the grades of candidate c
+pub record RowFor (N : ℕ) (ts : List ℕ) (c : ℕ) (row : List ℕ) : Type 0 where
+  pub long : termCount ts ≤ length row
+  pub grades : (i : ℕ) → i < termCount ts → getD row i 0 ≡ gradeIn (gradingOf N ts) c i
+
+-- the last of the two individuals that a link claim mentions
+abbrev pub latest : LinkClaim → ℕ
+latest q = max (q .source) (q .target)
+
+-- a membership claim is met with its individual at candidate c; a link claim with individual j at candidate s j
+abbrev pub MembershipMet : Grading → ℕ → MembershipClaim → Type 0
+MembershipMet G c q = Claimed (q .sense) (q .grade) (gradeIn G c (q .term))
+
+abbrev pub LinkMet : Grading → (ℕ → ℕ) → LinkClaim → Type 0
+LinkMet G s q = q .grade ≤ link G (q .role) (s (q .source)) (s (q .target))
+
+-- candidate c meets every claim that mentions individual j and no other
+pub record Alone (G : Grading) (ms ls : List ℕ) (j c : ℕ) : Type 0 where
+  pub memberships : (i : ℕ) → i < claimCount ms → membershipAt ms i .individual ≡ j → MembershipMet G c (membershipAt ms i)
+  pub links : (i : ℕ) → i < claimCount ls → linkAt ls i .source ≡ j → linkAt ls i .target ≡ j → LinkMet G (λ _. c) (linkAt ls i)

@@ -1,0 +1,4 @@
+pub mod Decimal
+pub mod Adding
+pub mod Lines
+pub mod Whole

@@ -1,0 +1,244 @@
+-- Laws of writing: the sheet written for an interpretation on the chain is right, and reads back as an interpretation that agrees with it.
+-- Assumes nothing.
+use mathlib.Core.Path.{_≡_, refl, sym, ap, _∙_}
+use mathlib.Core.Option.{none}
+use mathlib.Core.List.{List, [], _∷_, _++_, flatMap, append-assoc}
+use Prim.Native.Nat.{ℕ, zero, suc, _+_, _*_, _-_, _/_, _%_, _≤_, _<_}
+use native.Mathlib.Nat.{not-suc-le-zero, zero-add, add-zero, mul-zero, zero-mul, suc-mul, mul-suc, div-add-mod', mul-le-mul-left}
+use native.Mathlib.Omega.{arith}
+use lib.ListN.{length, getD, take, length-append, List·getD-append}
+use lib.Seq.{take-at, drop-at, take-all, getD-append-add}
+use Rattle.chain.specs.Lists.{Each, table, from}
+use Rattle.chain.specs.Questions.{firstNo}
+use Rattle.chain.proofs.Lists.{each-at, each-table, length-table, getD-table, table-same, flatMap-same}
+use Rattle.semantics.specs.Interpretations.{Interpretation, OnChain}
+use Rattle.semantics.specs.Books.{Book, Valid, nameCount, roleCount, individuals, RuleModel, MeetsClaims}
+use Rattle.book.specs.Layout.{wordAt, stretch}
+use Rattle.sheets.specs.Layout.{shapeOf, namesAt, linksAt, individualsAt, endAt, nameBytes, linkBytes, individualBytes}
+use Rattle.sheets.specs.Reading.{sheetOf}
+use Rattle.sheets.specs.Opening.{sheetQuestions, SheetRight, sheetBy, sheetOpened}
+use Rattle.sheets.specs.Writing.{shapeFor, headBytes, nameBody, linkBody, individualBody, sheetBytes}
+use Rattle.sheets.specs.Working.{verdictOf}
+use Rattle.sheets.specs.declared.Shape.{Shape}
+use Rattle.sheets.specs.declared.Sheet.the-variants.{Right}
+use Rattle.sheets.specs.declared.Verdict.the-variants.{Meets}
+use Rattle.sheets.proofs.Opening.{right-none}
+use Rattle.sheets.proofs.Agreement.{Agree, agree-meets}
+
+-- ---- blocks of one width, one after another
+
+module _ (f : ℕ → List ℕ) (w : ℕ) (wide : (x : ℕ) → length (f x) ≡ w) where
+  pub length-blocks : (a n : ℕ) → length (flatMap f (from a n)) ≡ n * w
+  unfolding flatMap from
+  length-blocks a zero = sym (zero-mul w)
+  length-blocks a (suc n) = omega (arith, length-append (f a) (flatMap f (from (suc a) n)), wide a, length-blocks (suc a) n, suc-mul n w)
+
+  pub at-blocks : (a n k i : ℕ) → k < n → i < w → getD (flatMap f (from a n)) (w * k + i) 0 ≡ getD (f (a + k)) i 0
+  unfolding flatMap from
+  at-blocks a zero k i h l = absurd (not-suc-le-zero h)
+  at-blocks a (suc n) zero i h l =
+      let e : w * 0 + i ≡ i = omega (arith, mul-zero w) in
+      rw (e, add-zero a) (List·getD-append (f a) (flatMap f (from (suc a) n)) 0 i (omega (arith, wide a)))
+  at-blocks a (suc n) (suc k) i h l =
+      let e : w * suc k + i ≡ length (f a) + (w * k + i) = omega (arith, mul-suc w k, wide a) in
+      let g : a + suc k ≡ suc a + k = omega arith in
+      rw (e, getD-append-add (f a) (flatMap f (from (suc a) n)) (w * k + i) 0, g) (at-blocks (suc a) n k i (omega arith) l)
+
+  pub at-rows : (n k i : ℕ) → k < n → i < w → getD (flatMap f (from 0 n)) (w * k + i) 0 ≡ getD (f k) i 0
+  at-rows n k i h l = at-blocks 0 n k i h l ∙ ap (λ (x : ℕ). getD (f x) i 0) (zero-add k)
+
+module _ (P : ℕ → Type 0) where
+  each-append : (xs ys : List ℕ) → Each P xs → Each P ys → Each P (xs ++ ys)
+  each-append [] ys h g = g
+  each-append (x ∷ xs) ys h g = (h .0, each-append xs ys (h .1) g)
+
+  each-blocks : (f : ℕ → List ℕ) (a n : ℕ) → ((x : ℕ) → x < a + n → Each P (f x)) → Each P (flatMap f (from a n))
+  unfolding flatMap from
+  each-blocks f a zero h = tt
+  each-blocks f a (suc n) h =
+      each-append (f a) (flatMap f (from (suc a) n)) (h a (omega arith)) (each-blocks f (suc a) n (λ x l. h x (omega arith)))
+
+-- ---- a stretch of three lists, one after another
+
+stretch-middle : (xs ys zs : List ℕ) (at to : ℕ) → length xs ≡ at → length ys ≡ to - at → stretch (xs ++ ys ++ zs) at to ≡ ys
+stretch-middle xs ys zs at to e h = rw (append-assoc xs ys zs, drop-at xs (ys ++ zs) at e) (take-at ys zs (to - at) h)
+
+-- ---- the sheet
+
+module _ (N A R I : ℕ) (M : Interpretation) where
+  abbrev n : ℕ
+  n = M .size
+
+  abbrev p : Shape
+  p = shapeFor N A R I M
+
+  abbrev b : List ℕ
+  b = sheetBytes N A R I M
+
+  abbrev head : List ℕ
+  head = headBytes N A R I M
+
+  -- one element's names, one element's links for a role, and all links for a role
+  abbrev nameRow : ℕ → List ℕ
+  nameRow e = table (λ a. M .names a e) A
+
+  abbrev linkRow : ℕ → ℕ → List ℕ
+  linkRow r e = table (λ f. M .links r e f) n
+
+  abbrev square : ℕ → List ℕ
+  square r = flatMap (linkRow r) (from 0 n)
+
+  -- ---- how long it is
+
+  length-head : length head ≡ 12
+  unfolding flatMap
+  length-head = refl
+
+  length-names : length (nameBody N A R I M) ≡ n * A
+  length-names = length-blocks nameRow A (λ e. length-table (λ a. M .names a e) A) 0 n
+
+  length-square : (r : ℕ) → length (square r) ≡ n * n
+  length-square r = length-blocks (linkRow r) n (λ e. length-table (λ f. M .links r e f) n) 0 n
+
+  length-links : length (linkBody N A R I M) ≡ R * (n * n)
+  length-links = length-blocks square (n * n) length-square 0 R
+
+  length-individuals : length (individualBody N A R I M) ≡ I
+  length-individuals = length-table (M .element) I
+
+  length-before-links : length (head ++ nameBody N A R I M) ≡ linksAt p
+  length-before-links = omega (arith, length-append head (nameBody N A R I M), length-head, length-names)
+
+  length-before-individuals : length (head ++ nameBody N A R I M ++ linkBody N A R I M) ≡ individualsAt p
+  length-before-individuals =
+      omega (arith, length-append (head ++ nameBody N A R I M) (linkBody N A R I M), length-before-links, length-links)
+
+  pub length-sheet : length b ≡ endAt p
+  unfolding sheetBytes
+  length-sheet =
+      omega (
+        arith,
+        length-append (head ++ nameBody N A R I M ++ linkBody N A R I M) (individualBody N A R I M),
+        length-before-individuals,
+        length-individuals,
+      )
+
+  -- at the front of a longer list
+  pub take-sheet : (rest : List ℕ) → take (endAt p) (b ++ rest) ≡ b
+  take-sheet rest = take-at b rest (endAt p) length-sheet
+
+  -- ---- its head and its bodies
+
+  pub shape-sheet : shapeOf b ≡ p
+  unfolding shapeOf sheetBytes
+  shape-sheet = refl
+
+  names-sheet : nameBytes b p ≡ nameBody N A R I M
+  unfolding sheetBytes
+  names-sheet =
+      rw (append-assoc (head ++ nameBody N A R I M) (linkBody N A R I M) (individualBody N A R I M))
+      (stretch-middle head (nameBody N A R I M) (linkBody N A R I M ++ individualBody N A R I M) namesAt (linksAt p) length-head
+      (omega (arith, length-names)))
+
+  links-sheet : linkBytes b p ≡ linkBody N A R I M
+  unfolding sheetBytes
+  links-sheet =
+      stretch-middle (head ++ nameBody N A R I M) (linkBody N A R I M) (individualBody N A R I M) (linksAt p) (individualsAt p) length-before-links
+      (omega (arith, length-links))
+
+  individuals-sheet : individualBytes b p ≡ individualBody N A R I M
+  unfolding sheetBytes
+  individuals-sheet =
+      rw (drop-at (head ++ nameBody N A R I M ++ linkBody N A R I M) (individualBody N A R I M) (individualsAt p) length-before-individuals)
+      (take-all (endAt p - individualsAt p) (individualBody N A R I M) (omega (arith, length-individuals)))
+
+  -- ---- it reads back
+
+  at-names : (a e : ℕ) → a < A → e < n → getD (nameBody N A R I M) (A * e + a) 0 ≡ M .names a e
+  at-names a e h l = at-rows nameRow A (λ e. length-table (λ a. M .names a e) A) n e a l h ∙ getD-table (λ a. M .names a e) A a 0 h
+
+  at-links : (r e f : ℕ) → r < R → e < n → f < n → getD (linkBody N A R I M) (n * (n * r + e) + f) 0 ≡ M .links r e f
+  at-links r e f h l m =
+      let i : n * (n * r + e) + f ≡ n * n * r + (n * e + f) = omega arith in
+      let k : n * e + f < n * n = omega (arith, mul-le-mul-left n l, mul-suc n e) in
+      rw i
+      (at-rows square (n * n) length-square R r (n * e + f) h k ∙ at-rows (linkRow r) n (λ e. length-table (λ f. M .links r e f) n) n e f l m
+      ∙ getD-table (λ f. M .links r e f) n f 0 m)
+
+  pub sheet-reads : Agree A R I M (sheetOf b)
+  unfolding sheetOf
+  sheet-reads = rw shape-sheet (record {
+    size-same = refl;
+    names-same = λ a e h l. rw names-sheet (at-names a e h l);
+    links-same = λ r e f h l m. rw links-sheet (at-links r e f h l m);
+    element-same = λ j h. rw individuals-sheet (getD-table (M .element) I j 0 h);
+  })
+
+  -- ---- it is right
+
+  word-read : (v : ℕ) → v / 256 * 256 + v % 256 ≡ v
+  word-read v = div-add-mod' v 256
+
+  module _ (on : OnChain N M) (few : n ≤ 64) where
+    names-right : Each (λ g. g ≤ N) (nameBody N A R I M)
+    names-right =
+        each-blocks (λ g. g ≤ N) nameRow 0 n (λ e l. each-table (λ g. g ≤ N) (λ a. M .names a e) A (λ a _. on .names-le a e (omega arith)))
+
+    links-right : Each (λ g. g ≤ N) (linkBody N A R I M)
+    links-right =
+        each-blocks (λ g. g ≤ N) square 0 R (λ r _. each-blocks (λ g. g ≤ N) (linkRow r) 0 n (λ e l.
+        each-table (λ g. g ≤ N) (λ f. M .links r e f) n (λ f m. on .links-le r e f (omega arith) m)))
+
+    individuals-right : Each (λ x. x < n) (individualBody N A R I M)
+    individuals-right = each-table (λ x. x < n) (M .element) I (λ j _. on .element-lt j)
+
+    pub sheet-right : SheetRight b p N A R I
+    unfolding wordAt sheetBytes flatMap
+    sheet-right = record {
+      shape-are = sym shape-sheet;
+      head-right = (omega (arith, length-sheet), (refl, (refl, (on .inhabited, (few, (refl, (refl, refl)))))));
+      laid-out = (word-read namesAt, (word-read (linksAt p), (word-read (individualsAt p), length-sheet)));
+      entries-right = (
+        rw names-sheet (each-at (λ g. g ≤ N) (nameBody N A R I M) 0 .0 names-right),
+        (
+          rw links-sheet (each-at (λ g. g ≤ N) (linkBody N A R I M) 0 .0 links-right),
+          rw individuals-sheet (each-at (λ x. x < n) (individualBody N A R I M) 0 .0 individuals-right),
+        ),
+      );
+    }
+
+    -- so the checks 13 to 15 say yes to it
+    pub sheet-accepted : firstNo (sheetQuestions b (shapeOf b) N A R I) ≡ none
+    sheet-accepted = right-none b p N A R I sheet-right
+
+    pub sheet-opened : sheetOpened b N A R I ≡ Right p
+    unfolding sheetOpened
+    sheet-opened = ap (sheetBy (shapeOf b)) sheet-accepted ∙ ap Right shape-sheet
+
+-- ---- what is written of a model
+
+-- the sheet written for an interpretation that meets a book's rules and claims meets them
+pub sheet-meets : (B : Book) (M : Interpretation) → Valid B → RuleModel (B .grading) (B .rules) M → MeetsClaims B M
+    → verdictOf B (sheetOf (sheetBytes (B .grading .steps) (nameCount B) (roleCount B) (individuals B) M)) ≡ Meets
+sheet-meets B M v r c = agree-meets B M _ v (sheet-reads (B .grading .steps) (nameCount B) (roleCount B) (individuals B) M) r c
+
+-- interpretations that agree have one sheet
+module _ (N A R I : ℕ) (M K : Interpretation) (same : Agree A R I M K) where
+  head-same : headBytes N A R I K ≡ headBytes N A R I M
+  head-same =
+      ap (λ (n : ℕ). headBytes N A R I (record { size = n; names = M .names; links = M .links; element = M .element })) (same .size-same)
+
+  names-same : nameBody N A R I K ≡ nameBody N A R I M
+  names-same = rw (same .size-same) (flatMap-same _ _ 0 (M .size) (λ e l. table-same _ _ A (λ a h. same .names-same a e h (omega arith))))
+
+  links-same : linkBody N A R I K ≡ linkBody N A R I M
+  links-same =
+      rw (same .size-same) (flatMap-same _ _ 0 R (λ r h. flatMap-same _ _ 0 (M .size) (λ e l.
+      table-same _ _ (M .size) (λ f m. same .links-same r e f (omega arith) (omega arith) m))))
+
+  individuals-same : individualBody N A R I K ≡ individualBody N A R I M
+  individuals-same = table-same _ _ I (same .element-same)
+
+  pub sheet-same : sheetBytes N A R I K ≡ sheetBytes N A R I M
+  unfolding sheetBytes
+  sheet-same = cc (head-same, names-same, links-same, individuals-same)

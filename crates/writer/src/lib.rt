@@ -1,0 +1,196 @@
+// Decides a book, and writes the sheet of the model that its survivors and their placement are.
+ghost use mathlib.Core.Path.{_≡_};
+ghost use mathlib.Core.Option.{some};
+ghost use mathlib.Core.List.{_++_};
+ghost use Prim.Native.Nat.{_<_, _≤_};
+ghost use lib.ListN.{length, take, drop};
+ghost use Rattle.chain.specs.Questions.{firstNo};
+ghost use Rattle.semantics.specs.Books.{nameCount, roleCount, individuals as individualsOf};
+ghost use Rattle.semantics.specs.Candidates.{candidates};
+ghost use Rattle.book.specs.Opening.{Right, countedOf};
+ghost use Rattle.book.specs.Reading.{bookOf};
+ghost use Rattle.book.specs.declared.Counted.the-variants.{Candidates};
+ghost use Rattle.sheets.specs.Layout.{endAt, Indexable};
+ghost use Rattle.elimination.specs.Marks.{marked};
+ghost use Rattle.placement.specs.Outcome.{survivorsOf, outcome as outcomeOf, placement as placementOf};
+ghost use Rattle.decider.specs.Deciding.{marksAfter, placementAfter, Seated};
+ghost use Rattle.writer.specs.Writing.{modelBytes, modelQuestions, written, writtenIn, writtenOf, sheetAfter};
+use book::Counted;
+use book::Opened;
+use book::Sections;
+use decider::Decision;
+use sheets::Shape;
+
+// The number of the first check that says no, or the sheet's length.
+pub enum Written {
+    Refused(u8),
+    Sheet(usize),
+}
+
+// The counts of a sheet of so many elements for an accepted book.
+fn shape_in(b: &[u8], s: Sections, elements: usize) -> Shape
+    requires { ⌜ Right (now b) s ⌝ }
+    ensures { λ r. ⌜ (r .elements ≡ elements) × (r .names ≡ nameCount (bookOf (now (b .entry)))) × (r .roles ≡ roleCount (bookOf (now (b .entry)))) × (r .individuals ≡ individualsOf (bookOf (now (b .entry)))) ⌝ }
+{
+    let terms = s.terms;
+    let rules = s.rules;
+    let memberships = s.memberships;
+    let links = s.links;
+    let end = s.end;
+    Shape {
+        elements,
+        names: counts::count_names(&b[terms..rules]),
+        roles: counts::count_roles(&b[terms..rules], &b[links..end]),
+        individuals: counts::count_individuals(&b[memberships..links], &b[links..end]),
+    }
+}
+
+// Writes the sheet, where there is room for it: the marked types, with the individuals at their seats.
+fn write_marked(
+    b: &[u8],
+    s: Sections,
+    count: usize,
+    marks: &[u8],
+    seats: &[u16],
+    p: Shape,
+    sheet: &mut [u8],
+)
+    requires { ⌜ Right (now b) s ⌝ }
+    requires { ⌜ (p .elements ≡ length (survivorsOf (bookOf (now b)))) × (p .names ≡ nameCount (bookOf (now b))) × (p .roles ≡ roleCount (bookOf (now b))) × (p .individuals ≡ individualsOf (bookOf (now b))) ⌝ }
+    requires { ⌜ (count ≤ 16384) × (count ≤ length (now marks)) × (marked (now marks) count ≡ survivorsOf (bookOf (now b))) ⌝ }
+    requires { ⌜ (p .elements ≤ 64) × (8 ≤ length (now seats)) × (placementOf (bookOf (now b)) ≡ some (take (p .individuals) (now seats))) × (endAt p ≤ length (now sheet)) ⌝ }
+    ensures { λ _. ⌜ now (sheet .exit) ≡ modelBytes (bookOf (now (b .entry))) ++ drop (endAt p) (now (sheet .entry)) ⌝ }
+{
+    let terms = s.terms;
+    let rules = s.rules;
+    let individuals = p.individuals;
+    let mut types = [0u16; 64];
+    let n = models::list_marked(marks, count, &mut types);
+    models::write_model(
+        &b[terms..rules],
+        s.steps,
+        p.names,
+        p.roles,
+        &types[..n],
+        &seats[..individuals],
+        sheet,
+    );
+}
+
+// Check 19, and the sheet, of a book with outcome 1 and few survivors.
+fn write_few(
+    b: &[u8],
+    s: Sections,
+    count: usize,
+    marks: &[u8],
+    seats: &[u16],
+    survivors: usize,
+    sheet: &mut [u8],
+) -> Written
+    requires { ⌜ Right (now b) s ⌝ }
+    requires { ⌜ (count ≤ 16384) × (count ≤ length (now marks)) × (marked (now marks) count ≡ survivorsOf (bookOf (now b))) ⌝ }
+    requires { ⌜ (8 ≤ length (now seats)) × Seated (now b) (now seats) × (outcomeOf (bookOf (now b)) ≡ 1) × (survivors ≡ length (survivorsOf (bookOf (now b)))) × (survivors ≤ 64) ⌝ }
+    ensures { λ r. ⌜ r ≡ written (bookOf (now (b .entry))) (firstNo (modelQuestions (bookOf (now (b .entry))) (length (now (sheet .entry))))) ⌝ }
+    ensures { λ _. ⌜ now (sheet .exit) ≡ writtenIn (bookOf (now (b .entry))) (firstNo (modelQuestions (bookOf (now (b .entry))) (length (now (sheet .entry))))) (now (sheet .entry)) ⌝ }
+{
+    let p = shape_in(b, s, survivors);
+    let length = sheets::end_at(p);
+    if sheet.len() < length {
+        return Written::Refused(19);
+    }
+    write_marked(b, s, count, marks, seats, p, sheet);
+    Written::Sheet(length)
+}
+
+// Checks 17 to 19, and the sheet, of a book that is decided.
+fn write_decided(
+    b: &[u8],
+    s: Sections,
+    count: usize,
+    marks: &[u8],
+    seats: &[u16],
+    outcome: u8,
+    survivors: usize,
+    sheet: &mut [u8],
+) -> Written
+    requires { ⌜ Right (now b) s ⌝ }
+    requires { ⌜ (count ≤ 16384) × (count ≤ length (now marks)) × (marked (now marks) count ≡ survivorsOf (bookOf (now b))) ⌝ }
+    requires { ⌜ (8 ≤ length (now seats)) × Seated (now b) (now seats) × (outcome ≡ outcomeOf (bookOf (now b))) × (survivors ≡ length (survivorsOf (bookOf (now b)))) ⌝ }
+    ensures { λ r. ⌜ r ≡ written (bookOf (now (b .entry))) (firstNo (modelQuestions (bookOf (now (b .entry))) (length (now (sheet .entry))))) ⌝ }
+    ensures { λ _. ⌜ now (sheet .exit) ≡ writtenIn (bookOf (now (b .entry))) (firstNo (modelQuestions (bookOf (now (b .entry))) (length (now (sheet .entry))))) (now (sheet .entry)) ⌝ }
+{
+    if outcome != 1 {
+        return Written::Refused(17);
+    }
+    if 64 < survivors {
+        return Written::Refused(18);
+    }
+    write_few(b, s, count, marks, seats, survivors, sheet)
+}
+
+// Decides, and goes on with what was decided.
+fn write_counted(
+    b: &[u8],
+    s: Sections,
+    k: u64,
+    marks: &mut [u8],
+    placement: &mut [u8],
+    seats: &mut [u16],
+    sheet: &mut [u8],
+) -> Written
+    requires { ⌜ Right (now b) s ⌝ }
+    requires { ⌜ countedOf (now b) ≡ Candidates k ⌝ }
+    requires { ⌜ 8 ≤ length (now seats) ⌝ }
+    ensures { λ r. ⌜ r ≡ writtenOf (now (b .entry)) (length (now (marks .entry))) (length (now (placement .entry))) (length (now (sheet .entry))) ⌝ }
+    ensures { λ _. ⌜ now (marks .exit) ≡ marksAfter (now (b .entry)) (length (now (placement .entry))) (now (marks .entry)) ⌝ }
+    ensures { λ _. ⌜ now (placement .exit) ≡ placementAfter (now (b .entry)) (length (now (marks .entry))) (now (placement .entry)) ⌝ }
+    ensures { λ _. ⌜ now (sheet .exit) ≡ sheetAfter (now (b .entry)) (length (now (marks .entry))) (length (now (placement .entry))) (now (sheet .entry)) ⌝ }
+{
+    match decider::decide_counted(b, s, k, marks, placement, seats) {
+        Decision::Refused(n) => Written::Refused(n),
+        Decision::Decided(outcome, survivors) => write_decided(
+            b,
+            s,
+            k as usize,
+            marks,
+            seats,
+            outcome,
+            survivors,
+            sheet,
+        ),
+    }
+}
+
+// Writes the sheet of an accepted book whose sections are `s`: no check before 10 is made.
+pub fn write_in(
+    b: &[u8],
+    s: Sections,
+    marks: &mut [u8],
+    placement: &mut [u8],
+    sheet: &mut [u8],
+) -> Written
+    requires { ⌜ Right (now b) s ⌝ }
+    ensures { λ r. ⌜ r ≡ writtenOf (now (b .entry)) (length (now (marks .entry))) (length (now (placement .entry))) (length (now (sheet .entry))) ⌝ }
+    ensures { λ _. ⌜ now (marks .exit) ≡ marksAfter (now (b .entry)) (length (now (placement .entry))) (now (marks .entry)) ⌝ }
+    ensures { λ _. ⌜ now (placement .exit) ≡ placementAfter (now (b .entry)) (length (now (marks .entry))) (now (placement .entry)) ⌝ }
+    ensures { λ _. ⌜ now (sheet .exit) ≡ sheetAfter (now (b .entry)) (length (now (marks .entry))) (length (now (placement .entry))) (now (sheet .entry)) ⌝ }
+{
+    let mut seats = [0u16; 8];
+    match book::count_in(b, s) {
+        Counted::Refused(n) => Written::Refused(n),
+        Counted::Candidates(k) => write_counted(b, s, k, marks, placement, &mut seats, sheet),
+    }
+}
+
+// Decides a book, and writes the sheet of its model.
+pub fn write_sheet(b: &[u8], marks: &mut [u8], placement: &mut [u8], sheet: &mut [u8]) -> Written
+    ensures { λ r. ⌜ r ≡ writtenOf (now (b .entry)) (length (now (marks .entry))) (length (now (placement .entry))) (length (now (sheet .entry))) ⌝ }
+    ensures { λ _. ⌜ now (marks .exit) ≡ marksAfter (now (b .entry)) (length (now (placement .entry))) (now (marks .entry)) ⌝ }
+    ensures { λ _. ⌜ now (placement .exit) ≡ placementAfter (now (b .entry)) (length (now (marks .entry))) (now (placement .entry)) ⌝ }
+    ensures { λ _. ⌜ now (sheet .exit) ≡ sheetAfter (now (b .entry)) (length (now (marks .entry))) (length (now (placement .entry))) (now (sheet .entry)) ⌝ }
+{
+    match book::open(b) {
+        Opened::Refused(n) => Written::Refused(n),
+        Opened::Accepted(s) => write_in(b, s, marks, placement, sheet),
+    }
+}
