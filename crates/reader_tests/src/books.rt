@@ -16,12 +16,6 @@ fn wide(x: u8) -> usize
     x as usize
 }
 
-pub fn set(b: &mut [u8], at: usize, x: u8) {
-    if at < b.len() {
-        b[at] = x;
-    }
-}
-
 // Each writer answers the place after what it wrote. Where the room is used up, nothing is written.
 pub fn byte(b: &mut [u8], at: usize, x: u8) -> usize {
     if at < b.len() {

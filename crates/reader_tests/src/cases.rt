@@ -2,12 +2,12 @@
 // the number of candidates.
 use crate::answers::Answer;
 use crate::books::blank;
+use crate::judged::expect;
 use crate::recipes::Recipe;
 use crate::recipes::run;
-use crate::tally::Tally;
-use crate::tally::begin;
-use crate::tally::expect;
-use crate::text;
+use reports::tally::Tally;
+use reports::tally::begin;
+use reports::text;
 
 // A book in hexadecimal.
 fn written(t: Tally, book: &[u8], number: u8, candidates: u64) -> Tally {

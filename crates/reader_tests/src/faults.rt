@@ -1,9 +1,10 @@
 // A book that one change makes fail any check: the first check that says no gives the number.
 use crate::books;
 use crate::books::blank;
-use crate::tally::Tally;
-use crate::tally::begin;
-use crate::tally::compare;
+use crate::judged::compare;
+use reports::tally::Tally;
+use reports::tally::begin;
+use reports::text::set;
 
 // 76 bytes, N 1. From 18: 14 names, at 60 not 0, at 63 a top; 66: a rule; 68: a membership claim; 72: a link claim, all of zeros.
 fn sound(b: &mut [u8]) {
@@ -13,20 +14,36 @@ fn sound(b: &mut [u8]) {
     books::term(b, at, 6, 0, 0);
 }
 
-// The change that makes check `number` say no; for check 1 it is the length.
-fn spoil(b: &mut [u8], number: u8) {
+// The byte whose change makes check `number` say no, and its value then; for check 1 it is the length that changes, and no byte.
+fn place(number: u8) -> usize {
     match number {
-        2 => books::set(b, 0, 2),
-        3 => books::set(b, 1, 9),
-        4 => books::set(b, 17, 65),
-        5 => books::set(b, 3, 17),
-        6 => books::set(b, 63, 8),
-        7 => books::set(b, 66, 16),
-        8 => books::set(b, 68, 8),
-        9 => books::set(b, 72, 8),
-        10 => books::set(b, 60, 4),
-        _ => {}
+        2 => 0,
+        3 => 1,
+        4 => 17,
+        5 => 3,
+        6 => 63,
+        7 => 66,
+        8 => 68,
+        9 => 72,
+        10 => 60,
+        _ => 1024,
     }
+}
+
+fn value(number: u8) -> u8 {
+    match number {
+        2 => 2,
+        3 => 9,
+        4 => 65,
+        5 => 17,
+        7 => 16,
+        10 => 4,
+        _ => 8,
+    }
+}
+
+fn spoil(b: &mut [u8], number: u8) {
+    set(b, place(number), value(number));
 }
 
 fn length(too_long: bool) -> usize {

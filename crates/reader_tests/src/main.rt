@@ -3,35 +3,53 @@ mod answers;
 mod books;
 mod cases;
 mod faults;
+mod judged;
 mod random;
 mod reader;
 mod recipes;
 mod second;
 mod sweeps;
-mod tally;
-mod text;
 
-use tally::close;
+use reports::tally;
+use reports::tally::Tally;
+use reports::tally::close;
 
-fn main() {
-    let mut total = tally::begin();
+// Cases of the head and of the layout.
+fn heads(mut total: Tally) -> Tally {
     total = close(total, b"readings", cases::readings());
     total = close(total, b"length", cases::lengths());
     total = close(total, b"edition", cases::editions());
     total = close(total, b"steps", cases::steps());
     total = close(total, b"counts", cases::counts());
     total = close(total, b"layout", cases::layout());
+    total
+}
+
+// Cases of the records and of the order of checks.
+fn bodies(mut total: Tally) -> Tally {
     total = close(total, b"terms", cases::terms());
     total = close(total, b"rules", cases::rules());
     total = close(total, b"memberships", cases::memberships());
     total = close(total, b"links", cases::links());
     total = close(total, b"candidates", cases::candidates());
     total = close(total, b"order", cases::order());
+    total
+}
+
+// Books for which the second checker is believed.
+fn compared(mut total: Tally) -> Tally {
     total = close(total, b"sets of faults", faults::sets());
     total = close(total, b"printed book cut", sweeps::printed_cut());
     total = close(total, b"printed book changed", sweeps::printed_changed());
     total = close(total, b"larger book cut", sweeps::larger_cut());
     total = close(total, b"larger book changed", sweeps::larger_changed());
     total = close(total, b"random books", random::books());
+    total
+}
+
+fn main() {
+    let mut total = heads(tally::begin());
+    total = bodies(total);
+    total = compared(total);
     tally::print(b"total", total);
 }

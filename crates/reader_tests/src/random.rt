@@ -2,9 +2,10 @@
 ghost use mathlib.Core.Path.{_≡_};
 use crate::books;
 use crate::books::blank;
-use crate::tally::Tally;
-use crate::tally::begin;
-use crate::tally::compare;
+use crate::judged::compare;
+use reports::tally::Tally;
+use reports::tally::begin;
+use reports::text::set;
 use std::num::wrapping_add_usize;
 
 const BOOKS: u64 = 20000;
@@ -60,6 +61,23 @@ fn draw_two(p: Pen, b: &mut [u8], x: u8, y: u8) -> Pen {
     draw(q, b, y)
 }
 
+// Below what the parts a and b of a term are drawn: names and roles have bounds of their own, a child is below the term's number.
+fn first_bound(kind: u8, number: u8) -> u8 {
+    match kind {
+        0 => 16,
+        1 => number,
+        2 => number,
+        3 => number,
+        4 => 8,
+        5 => 8,
+        _ => 1,
+    }
+}
+
+fn second_bound(kind: u8, number: u8) -> u8 {
+    if 2 <= kind && kind <= 5 { number } else { 1 }
+}
+
 // A term of the given number. The first is a name, since it can have no child.
 fn draw_term(p: Pen, b: &mut [u8], number: u8) -> Pen {
     let seed = next(p.seed);
@@ -68,15 +86,13 @@ fn draw_term(p: Pen, b: &mut [u8], number: u8) -> Pen {
         at: books::byte(b, p.at, kind),
         seed,
     };
-    match kind {
-        0 => draw_two(q, b, 16, 1),
-        1 => draw_two(q, b, number, 1),
-        2 => draw_two(q, b, number, number),
-        3 => draw_two(q, b, number, number),
-        4 => draw_two(q, b, 8, number),
-        5 => draw_two(q, b, 8, number),
-        _ => draw_two(q, b, 1, 1),
-    }
+    draw_two(q, b, first_bound(kind, number), second_bound(kind, number))
+}
+
+// A claim of either sort; the one of membership has a term and a sense where the other has two individuals.
+fn draw_claim(p: Pen, b: &mut [u8], second: u8, third: u8, grades: u8) -> Pen {
+    let q = draw_two(p, b, 8, second);
+    draw_two(q, b, third, grades)
 }
 
 // A record of the given section; a term needs its number too.
@@ -88,11 +104,9 @@ fn draw_record(p: Pen, b: &mut [u8], s: Shape, section: u8, number: u8) -> Pen {
         return draw_two(p, b, s.terms, s.terms);
     }
     if section == 2 {
-        let q = draw_two(p, b, 8, s.terms);
-        return draw_two(q, b, 2, s.grades);
+        return draw_claim(p, b, s.terms, 2, s.grades);
     }
-    let q = draw_two(p, b, 8, 8);
-    draw_two(q, b, 8, s.grades)
+    draw_claim(p, b, 8, 8, s.grades)
 }
 
 fn draw_section(mut p: Pen, b: &mut [u8], s: Shape, section: u8, count: u8) -> Pen {
@@ -116,10 +130,19 @@ fn shape_of(seed: u64) -> Shape {
 
 // Damages one book in eight, by a byte of any value anywhere or a small one in the head.
 fn damage(b: &mut [u8], seed: u64) {
-    match seed % 16 {
-        0 => books::set(b, (seed / 4096 % 64) as usize, (seed / 16 % 256) as u8),
-        1 => books::set(b, (seed / 4096 % 18) as usize, (seed / 16 % 70) as u8),
-        _ => {}
+    let lot = seed % 16;
+    let place = if lot == 0 {
+        seed / 4096 % 64
+    } else {
+        seed / 4096 % 18
+    };
+    let value = if lot == 0 {
+        seed / 16 % 256
+    } else {
+        seed / 16 % 70
+    };
+    if lot < 2 {
+        set(b, place as usize, (value % 256) as u8);
     }
 }
 

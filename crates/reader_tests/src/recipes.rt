@@ -6,10 +6,13 @@ use crate::answers::refused;
 use crate::books;
 use crate::books::blank;
 use crate::faults;
-use crate::tally::Tally;
-use crate::tally::expect;
-use crate::text;
-use crate::text::Row;
+use crate::judged::expect;
+use reports::tally::Tally;
+use reports::text;
+use reports::text::Row;
+use reports::text::cell;
+use reports::text::set;
+use reports::text::small;
 use std::num::wrapping_add_u8;
 
 // The answer that is expected of a row with too few or too many numbers: none.
@@ -54,7 +57,7 @@ fn sized(b: &mut [u8], terms: u8, rules: u8, memberships: u8, links: u8, length:
 // No records, one byte of the head changed. N is 1.
 fn empty(b: &mut [u8], at: u8, x: u8, length: usize) -> usize {
     books::head(b, 1, 0, 0, 0, 0);
-    books::set(b, at as usize, x);
+    set(b, at as usize, x);
     length
 }
 
@@ -67,7 +70,7 @@ fn sample(b: &mut [u8], at: u8, x: u8, length: usize) -> usize {
         00 00 00 01 00 00 00 05 00  00 01  00 00 00 01  00 00 01 01
         ",
     );
-    books::set(b, at as usize, x);
+    set(b, at as usize, x);
     length
 }
 
@@ -126,24 +129,20 @@ fn places(b: &mut [u8], steps: u8, names: u8, some: u8, all: u8) -> usize {
     books::terms(b, at, all, 5, 7, 0)
 }
 
-fn cell(r: Row, i: usize) -> u8 {
-    if i < 8 { (r.cells[i] % 256) as u8 } else { 0 }
-}
-
 // Writes the book and answers its length.
 fn make(b: &mut [u8], recipe: Recipe, r: Row) -> usize {
-    let v = cell(r, 0);
-    let w = cell(r, 1);
-    let x = cell(r, 2);
-    let y = cell(r, 3);
-    let z = cell(r, 4);
+    let v = small(r, 0);
+    let w = small(r, 1);
+    let x = small(r, 2);
+    let y = small(r, 3);
+    let z = small(r, 4);
     match recipe {
-        Recipe::Sized => sized(b, v, w, x, y, r.cells[4]),
-        Recipe::Empty => empty(b, v, w, r.cells[2]),
-        Recipe::Sample => sample(b, v, w, r.cells[2]),
+        Recipe::Sized => sized(b, v, w, x, y, cell(r, 4)),
+        Recipe::Empty => empty(b, v, w, cell(r, 2)),
+        Recipe::Sample => sample(b, v, w, cell(r, 2)),
         Recipe::Term => term(b, v, w, x, y),
         Recipe::Rule => rule(b, v, w, x),
-        Recipe::Membership => membership(b, v, w, x, y, z, cell(r, 5)),
+        Recipe::Membership => membership(b, v, w, x, y, z, small(r, 5)),
         Recipe::Link => link(b, v, w, x, y, z),
         Recipe::Places => places(b, v, w, x, y),
         Recipe::Faults => faults::make(b, v, w),
@@ -153,12 +152,12 @@ fn make(b: &mut [u8], recipe: Recipe, r: Row) -> usize {
 fn expected(r: Row, from: usize) -> Answer
     requires { ⌜ from ≤ 6 ⌝ }
 {
-    let number = cell(r, from);
+    let number = small(r, from);
     if r.count == from + 1 && number != 0 {
         return refused(number);
     }
     if r.count == from + 2 && number == 0 {
-        return accepted(r.cells[from + 1] as u64);
+        return accepted(cell(r, from + 1) as u64);
     }
     refused(NO_ANSWER)
 }

@@ -1,9 +1,9 @@
 // Two books, cut and changed everywhere.
 use crate::books::blank;
-use crate::tally::Tally;
-use crate::tally::begin;
-use crate::tally::compare;
-use crate::text;
+use crate::judged::compare;
+use reports::tally::Tally;
+use reports::tally::begin;
+use reports::text;
 use std::num::wrapping_add_u8;
 
 // The book that document 01 prints.

@@ -1,5 +1,7 @@
 // What a call says: the number of the first check that says no, or 0 and the verdict or grade.
 use checker::Worked;
+use reports::tally;
+use reports::tally::Tally;
 use sheets::Verdict;
 
 // With number 0, kind 0 is "meets", 1 a rule with its element, 2 a membership claim, 3 a link claim, 4 a grade.
@@ -51,6 +53,11 @@ pub fn of_grade(a: checker::Answer) -> Answer {
     }
 }
 
-pub fn same(a: Answer, b: Answer) -> bool {
+fn same(a: Answer, b: Answer) -> bool {
     a.number == b.number && a.kind == b.kind && a.at == b.at && a.element == b.element
+}
+
+// One case more; `kept` says that the buffer is as it should be.
+pub fn judge(t: Tally, expected: Answer, given: Answer, kept: bool) -> Tally {
+    tally::judge(t, kept && same(expected, given))
 }

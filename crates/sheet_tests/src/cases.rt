@@ -2,8 +2,8 @@
 use crate::runs::Recipe;
 use crate::runs::run;
 use crate::runs::written;
-use crate::tally::Tally;
-use crate::tally::begin;
+use reports::tally::Tally;
+use reports::tally::begin;
 
 // A book of N 2: name 0, "some r0" of it, and the claim of individual 0 that it is at least 0. On a sheet of two elements.
 fn changes(t: Tally, table: &[u8]) -> Tally {

@@ -1,14 +1,14 @@
 // Grids against the second evaluation, on sheets with mixed grades. The books have no rules and no claims, so every sheet meets them.
+use crate::answers::judge;
 use crate::answers::of_worked;
 use crate::answers::refused;
-use crate::runs::set;
 use crate::second;
-use crate::second::byte;
 use crate::second::times;
-use crate::tally::Tally;
-use crate::tally::begin;
-use crate::tally::judge;
-use crate::text;
+use reports::tally::Tally;
+use reports::tally::begin;
+use reports::text;
+use reports::text::byte;
+use reports::text::set;
 use std::num::wrapping_add_usize;
 
 // A number below `levels` that looks like chance.

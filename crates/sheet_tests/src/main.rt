@@ -4,10 +4,9 @@ mod cases;
 mod compared;
 mod runs;
 mod second;
-mod tally;
-mod text;
 
-use tally::close;
+use reports::tally;
+use reports::tally::close;
 
 fn main() {
     let mut total = tally::begin();

@@ -1,15 +1,17 @@
 // Runs the cases of a table on a book and a sheet, written in hexadecimal; the recipe says what the numbers of a row are.
 use crate::answers::Answer;
+use crate::answers::judge;
 use crate::answers::of_grade;
 use crate::answers::of_worked;
 use crate::answers::refused;
 use crate::answers::said;
-use crate::tally::Tally;
-use crate::tally::judge;
-use crate::text;
-use crate::text::Row;
-use crate::text::cell;
-use crate::text::small;
+use reports::tally::Tally;
+use reports::text;
+use reports::text::Row;
+use reports::text::cell;
+use reports::text::same_bytes;
+use reports::text::set;
+use reports::text::small;
 use std::num::wrapping_add_usize;
 
 // The number of no check.
@@ -29,24 +31,6 @@ fn columns(recipe: Recipe) -> usize {
         Recipe::Entries => 13,
         Recipe::Grade => 3,
         Recipe::Link => 4,
-    }
-}
-
-pub fn same_bytes(a: &[u8], b: &[u8]) -> bool {
-    if a.len() != b.len() {
-        return false;
-    }
-    for i in 0..a.len() {
-        if a[i] != b[i] {
-            return false;
-        }
-    }
-    true
-}
-
-pub fn set(b: &mut [u8], at: usize, x: u8) {
-    if at < b.len() {
-        b[at] = x;
     }
 }
 

@@ -1,9 +1,6 @@
 // A second evaluation, written from document 01 alone: the grade of one term at one element, without a grid.
+use reports::text::byte;
 use std::num::wrapping_add_usize;
-
-pub fn byte(b: &[u8], at: usize) -> u8 {
-    if at < b.len() { b[at] } else { 0 }
-}
 
 fn smaller(x: u8, y: u8) -> u8 {
     if x < y { x } else { y }

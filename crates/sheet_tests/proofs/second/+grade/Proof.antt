@@ -10,7 +10,7 @@ use borrow.Fn.PlainCycle.{Measures, is, falls, and}
 use Rattle.sheet_tests.proofs.second.grade.Reads as grade
 use Rattle.sheet_tests.proofs.second.grade.Kinds as grade-kinds
 use Rattle.sheet_tests.proofs.second.+grade.Lts-grade as grade-lts
-use Rattle.sheet_tests.proofs.second.byte.Reads as byte-reads
+use Rattle.reports.proofs.text.byte.Reads as byte-reads
 use Rattle.sheet_tests.proofs.second.elements.Reads as elements-reads
 use Rattle.sheet_tests.proofs.second.further.Reads as further-reads
 use Rattle.sheet_tests.proofs.second.joined.Reads as joined-reads

@@ -1,0 +1,3 @@
+// What the test programs share: rows of numbers and bytes that stand in text, and tallies of cases with their printing.
+pub mod tally;
+pub mod text;

@@ -1,0 +1,161 @@
+// A second decider. It tries the small interpretations of small books, and holds the decider to them; and it works out the interpretation of
+// the types that the decider lists. It is written from document 01 alone.
+mod grades;
+mod listed;
+mod meets;
+mod random;
+mod shape;
+mod types;
+mod worlds;
+
+use decider::Decision;
+use libc::STDIN_FILENO;
+use reports::tally;
+use reports::tally::Tally;
+use reports::tally::say;
+use reports::tally::say_count;
+use reports::text;
+use std::num::wrapping_add_u64;
+use worlds::Seen;
+
+// How many books are drawn from a template.
+const BOOKS: u64 = 100;
+
+// The state of the generator, what was seen, how many books had each outcome, and how many were tried and differ.
+struct Sums {
+    state: u64,
+    seen: Seen,
+    ones: u64,
+    twos: u64,
+    threes: u64,
+    books: Tally,
+}
+
+fn begin() -> Sums {
+    Sums {
+        state: random::SEED,
+        seen: worlds::none(),
+        ones: 0,
+        twos: 0,
+        threes: 0,
+        books: tally::begin(),
+    }
+}
+
+// One book more.
+fn judged(mut sums: Sums, right: bool) -> Sums {
+    let books = sums.books;
+    sums.books = tally::judge(books, right);
+    sums
+}
+
+fn count(mut sums: Sums, outcome: u8) -> Sums {
+    if outcome == 1 {
+        sums.ones = wrapping_add_u64(sums.ones, 1);
+    } else if outcome == 2 {
+        sums.twos = wrapping_add_u64(sums.twos, 1);
+    } else {
+        sums.threes = wrapping_add_u64(sums.threes, 1);
+    }
+    sums
+}
+
+fn decided(
+    mut sums: Sums,
+    b: &[u8],
+    outcome: u8,
+    survivors: usize,
+    marks: &[u8],
+    placement: &[u8],
+) -> Sums {
+    let s = shape::shape_of(b);
+    let mut seen = sums.seen;
+    seen.right = true;
+    seen = worlds::all(seen, b, s, outcome, marks);
+    sums.seen = seen;
+    let right = listed::right(b, s, outcome, survivors, marks, placement);
+    judged(count(sums, outcome), right && seen.right)
+}
+
+// A book that is refused differs: all of them are right.
+fn book(sums: Sums, b: &[u8]) -> Sums {
+    let mut marks = [0xA5u8; 96];
+    let mut placement = [0xA5u8; 16];
+    match decider::decide(b, &mut marks, &mut placement) {
+        Decision::Refused(_) => judged(sums, false),
+        Decision::Decided(outcome, survivors) => {
+            decided(sums, b, outcome, survivors, &marks, &placement)
+        }
+    }
+}
+
+fn first(sums: Sums, b: &[u8], length: usize) -> Sums {
+    if b.len() < length {
+        return judged(sums, false);
+    }
+    book(sums, &b[0..length])
+}
+
+fn written_book(sums: Sums, line: &[u8]) -> Sums {
+    let mut b = [0u8; 64];
+    let length = text::write(&mut b, line);
+    first(sums, &b, length)
+}
+
+fn drawn_book(mut sums: Sums, template: &[u8]) -> Sums {
+    let mut b = [0u8; 64];
+    let length = text::write(&mut b, template);
+    sums.state = random::draw(&mut b, sums.state);
+    first(sums, &b, length)
+}
+
+fn drawn_books(mut sums: Sums, template: &[u8]) -> Sums {
+    for _ in 0..BOOKS {
+        sums = drawn_book(sums, template);
+    }
+    sums
+}
+
+// A line of the input: a remark after a `#`, a template after the word `draw`, or a book; both in hexadecimal.
+fn line(sums: Sums, line: &[u8]) -> Sums {
+    let sort = text::byte(line, 0);
+    if sort == b'#' {
+        return sums;
+    }
+    if sort == b'd' {
+        drawn_books(sums, line)
+    } else {
+        written_book(sums, line)
+    }
+}
+
+fn lines(mut sums: Sums, input: &[u8]) -> Sums {
+    let mut at = 0;
+    while at < input.len() {
+        let end = text::line_end(input, at);
+        sums = line(sums, &input[at..end]);
+        at = end + 1;
+    }
+    sums
+}
+
+fn report(sums: Sums) {
+    let books = sums.books;
+    let seen = sums.seen;
+    tally::close(tally::begin(), b"books", books);
+    say_count(b"outcome 1:", sums.ones);
+    say_count(b", 2:", sums.twos);
+    say_count(b", 3:", sums.threes);
+    say_count(b"\ninterpretations", seen.tried);
+    say_count(b", models of the rules", seen.models);
+    say_count(b", of the claims too", seen.met);
+    say(b"\n");
+}
+
+fn main() {
+    let mut input = io::large_buffer();
+    let length = io::read_full(STDIN_FILENO, &mut input);
+    say_count(b"seed", random::SEED);
+    say(b"\n");
+    report(lines(begin(), &input[..length]));
+}
