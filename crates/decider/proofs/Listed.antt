@@ -1,14 +1,16 @@
 -- What deciding says and leaves, of a book that is decided: the laws that the demands name.
 -- Assumes nothing.
-use mathlib.Core.Path.{_≡_, refl, sym, ap, _∙_}
+use mathlib.Core.Path.{_≡_, refl, sym, ap, subst, _∙_}
+use mathlib.Core.Logic.{dite}
 use mathlib.Core.Option.{Option, none, some}
 use mathlib.Core.List.{List, [], _∷_, _++_, flatMap}
-use Prim.Native.Nat.{ℕ, zero, suc, _+_, _*_, _≤_, _<_}
+use Prim.Native.Nat.{ℕ, zero, suc, _+_, _-_, _*_, _≤_, _<_}
+use native.Mathlib.Decide.{decLt}
 use native.Mathlib.Omega.{arith}
 use lib.ListN.{length, getD, take, drop, length-append, length-drop}
-use lib.Seq.{take-at, drop-at, ext-getD}
-use Rattle.chain.specs.Lists.{index}
-use Rattle.chain.proofs.Lists.{length-table, getD-table}
+use lib.Seq.{take-at, drop-at, ext-getD, getD-drop}
+use Rattle.chain.specs.Lists.{Mem, index}
+use Rattle.chain.proofs.Lists.{length-table, getD-table, ascending-same}
 use Rattle.chain.specs.Questions.{firstNo}
 use Rattle.chain.proofs.Questions.{first-none-append, first-yes, first-empty}
 use Rattle.semantics.specs.Books.{Book, individuals}
@@ -20,8 +22,9 @@ use Rattle.book.specs.Writing.{wordBytes}
 use Rattle.book.proofs.Opening.{accepts-right}
 use Rattle.book.proofs.Reading.{right-individuals}
 use Rattle.elimination.specs.Listed.{typesIn}
-use Rattle.elimination.specs.Marks.{marksOf}
-use Rattle.elimination.proofs.Marks.{length-marks}
+use Rattle.elimination.specs.Marks.{marksOf, Marked, marked}
+use Rattle.elimination.proofs.Survivors.{survivors-ascending}
+use Rattle.elimination.proofs.Marks.{length-marks, marked-mem, marked-ascending}
 use Rattle.placement.specs.Outcome.{seat, survivorsOf, placement, outcome, HoldsAt, placedTypes}
 use Rattle.placement.specs.Dictionary.{Finds}
 use Rattle.placement.proofs.Outcome.{placement-finds, placement-first}
@@ -93,6 +96,29 @@ module _ (b marks buffer : List ℕ) (d : Decidable b (length marks) (length buf
 
   pub marks-length : length (marksAfter b p marks) ≡ length marks
   marks-length = ap length marks-is ∙ marked-length B k refl marks (d .marks-suffice)
+
+  -- where no byte of the buffer was 1, the whole buffer lists them
+  pub listed-all : ((c : ℕ) → ¬ Marked marks c) → marked (marksAfter b p marks) m ≡ survivorsOf B
+  listed-all clear =
+      ascending-same 0 (marked (marksAfter b p marks) m) (survivorsOf B) (marked-ascending (marksAfter b p marks) m)
+      (survivors-ascending (B .grading) (B .rules)) (λ c. (λ h. to c (marked-mem (marksAfter b p marks) m c .0 h), of c))
+    where
+      -- a byte past the candidates' is as it was
+      past : (c : ℕ) → k ≤ c → Marked (marksAfter b p marks) c → Marked marks c
+      past c l h =
+          let e : c ≡ k + (c - k) = omega arith in
+          ap (λ (i : ℕ). getD marks i 0) e ∙ sym (getD-drop k marks (c - k) 0) ∙ sym (ap (λ (l : List ℕ). getD l (c - k) 0) marks-kept)
+          ∙ getD-drop k (marksAfter b p marks) (c - k) 0 ∙ sym (ap (λ (i : ℕ). getD (marksAfter b p marks) i 0) e) ∙ h
+
+      to : (c : ℕ) → (c < m) × Marked (marksAfter b p marks) c → Mem c (survivorsOf B)
+      to c u =
+          dite (decLt c k) (λ l. subst (Mem c) listed-is (marked-mem (marksAfter b p marks) k c .1 (l, u .1)))
+          (λ l. absurd (clear c (past c (omega arith) (u .1))))
+
+      of : (c : ℕ) → Mem c (survivorsOf B) → Mem c (marked (marksAfter b p marks) m)
+      of c h =
+          let u = marked-mem (marksAfter b p marks) k c .0 (subst (Mem c) (sym listed-is) h) in
+          marked-mem (marksAfter b p marks) m c .1 (omega (arith, u .0, d .marks-suffice), u .1)
 
   -- ---- the placement
 

@@ -1,4 +1,5 @@
-pub mod Demand2
 pub mod Types
+pub mod Demand2
 pub mod Demand3
 pub mod Readings
+pub mod Printed
