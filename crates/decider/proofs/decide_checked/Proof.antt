@@ -1,52 +1,53 @@
-use Rattle.book.specs.Reading.{bookOf}
-use Rattle.decider.proofs.Deciding.{marked-in, outcome-3, outcome-3-is, outcome-3-kept}
-use Rattle.decider.specs.Deciding.{Seated}
-use Rattle.elimination.specs.Marks.{marked}
-use Rattle.decider.specs.declared.Decision.the-variants.{Decided}
+-- `decider::decide_checked` meets its contract.
+-- Assumes nothing.
 use mathlib.Core.Path.{sym, ap, ap₂, _∙_}
 use mathlib.Core.List.{List}
-use borrow.Author.Needs.{needs}
-use native.Mathlib.Omega.{arith}
 use Prim.Native.Nat.{ℕ}
-use Rattle.decider.proofs.decide_checked.Statement.{statement}
-use Rattle.decider.proofs.decide_checked.Tie as tie
+use native.Mathlib.Omega.{arith}
+use borrow.Author.Needs.{needs}
+use Rattle.book.specs.Reading.{bookOf}
+use Rattle.elimination.specs.Marks.{marked}
+use Rattle.decider.specs.Deciding.{Seated}
+use Rattle.decider.specs.declared.Decision.the-variants.{Decided}
+use Rattle.decider.proofs.Deciding.{marked-in, outcome-3, outcome-3-is, outcome-3-kept}
 use Rattle.decider.proofs.decide_checked.Reads as reads
 use Rattle.decider.proofs.decide_checked.Lts as lts
 use Rattle.decider.proofs.mark.Reads as mark-reads
 use Rattle.decider.proofs.place_individuals.Reads as place-individuals-reads
+use Rattle.decider.proofs.decide_checked.Statement.{statement}
+use Rattle.decider.proofs.decide_checked.Tie as tie
 
--- src/lib.rt:178:9
 mark-requires : tie.Need-mark-requires
 mark-requires c κs = search needs
 
--- src/lib.rt:180:9
 same-length : tie.Need-same-length
 same-length c = search needs
 
--- src/lib.rt:180:9
 returns : tie.Need-returns
 unfolding Seated
-returns c = let e = sym (c .before .before .before .mark .ensures .0) ∙ c .if1 .taken in (outcome-3 (bookOf (c .before .before .before .before .before .before .before .before .before .args .b .now)) e, (c .before .before .before .mark .ensures .1, (outcome-3-kept (bookOf (c .before .before .before .before .before .before .before .before .before .args .b .now)) e _, λ h. absurd (outcome-3-is (bookOf (c .before .before .before .before .before .before .before .before .before .args .b .now)) e h))))
+returns c =
+    let s = c .before .before .before .before .before .before .before .before .before in
+    let e = sym (c .before .before .before .mark .ensures .0) ∙ c .if1 .taken in
+    (outcome-3 (bookOf (s .args .b .now)) e, (c .before .before .before .mark .ensures .1, (outcome-3-kept (bookOf (s .args .b .now)) e _, λ h. absurd (outcome-3-is (bookOf (s .args .b .now)) e h))))
 
--- src/lib.rt:182:9
 place-individuals-requires : tie.Need-place-individuals-requires
-place-individuals-requires c κs = (c .before .before .before .before .before .before .before .before .before .before .before .before .pre .0, ((c .before .before .before .before .before .before .before .before .before .before .before .before .pre .1 .0 .1, omega (arith, c .before .before .before .before .before .before .mark .kept, c .before .before .before .before .before .before .before .before .before .before .before .before .pre .1 .0 .2), ap (λ (l : List ℕ). marked l (c .before .before .before .before .before .before .before .before .before .before .before .before .args .count)) (c .before .before .before .before .before .before .mark .ensures .1) ∙ marked-in (bookOf (c .before .before .before .before .before .before .before .before .before .before .before .before .args .b .now)) (c .before .before .before .before .before .before .before .before .before .before .before .before .args .count) (c .before .before .before .before .before .before .before .before .before .before .before .before .pre .1 .0 .0) (c .before .before .before .before .before .before .before .before .before .before .before .before .args .marks .now)), (omega (arith, c .before .before .before .before .before .before .mark .ensures .0, c .before .before .before .if1 .left), c .before .before .before .before .before .before .before .before .before .before .before .before .pre .1 .1 .0, c .before .before .before .before .before .before .before .before .before .before .before .before .pre .1 .1 .1)))
+place-individuals-requires c κs =
+    let s = c .before .before .before .before .before .before .before .before .before .before .before .before in
+    (s .pre .0, ((s .pre .1 .0 .1, omega (arith, c .before .before .before .before .before .before .mark .kept, s .pre .1 .0 .2), ap (λ (l : List ℕ). marked l (s .args .count)) (c .before .before .before .before .before .before .mark .ensures .1) ∙ marked-in (bookOf (s .args .b .now)) (s .args .count) (s .pre .1 .0 .0) (s .args .marks .now)), (omega (arith, c .before .before .before .before .before .before .mark .ensures .0, c .before .before .before .if1 .left), s .pre .1 .1 .0, s .pre .1 .1 .1)))
 
--- src/lib.rt:162:1
 same-length-2 : tie.Need-same-length-2
 same-length-2 c = search needs
 
--- src/lib.rt:162:1
 same-length-3 : tie.Need-same-length-3
 same-length-3 c = search needs
 
--- src/lib.rt:162:1
 same-length-4 : tie.Need-same-length-4
 same-length-4 c = search needs
 
--- src/lib.rt:162:1
 returns-2 : tie.Need-returns-2
-returns-2 c = (ap₂ Decided (c .before .before .before .before .place-individuals .ensures .0) (c .before .before .before .before .before .before .before .before .before .before .before .mark .ensures .0), (c .before .before .before .before .before .before .before .before .before .before .before .mark .ensures .1, (c .before .before .before .before .place-individuals .ensures .1 .0, c .before .before .before .before .place-individuals .ensures .1 .1)))
+returns-2 c =
+    let s = c .before .before .before .before .before .before .before .before .before .before .before in
+    (ap₂ Decided (c .before .before .before .before .place-individuals .ensures .0) (s .mark .ensures .0), (s .mark .ensures .1, (c .before .before .before .before .place-individuals .ensures .1 .0, c .before .before .before .before .place-individuals .ensures .1 .1)))
 
 pub decide-checked-spec : {M : Type 1} → statement M
 decide-checked-spec =

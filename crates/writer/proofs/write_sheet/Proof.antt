@@ -1,49 +1,47 @@
+-- `writer::write_sheet` meets its contract.
+-- Assumes nothing.
 use mathlib.Core.Path.{sym, _∙_}
+use lib.ListN.{length}
+use borrow.Author.Needs.{needs}
 use Rattle.book.proofs.Opening.{opened-accepted, counted-declined, counted-refused}
 use Rattle.decider.proofs.Deciding.{decide-before, refused}
+use Rattle.book.proofs.open.Reads as open-reads
 use Rattle.writer.proofs.Writing.{write-refused}
-use borrow.Author.Needs.{needs}
-use lib.ListN.{length}
-use Rattle.writer.proofs.write_sheet.Statement.{statement}
-use Rattle.writer.proofs.write_sheet.Tie as tie
 use Rattle.writer.proofs.write_sheet.Reads as reads
 use Rattle.writer.proofs.write_sheet.Lts as lts
-use Rattle.book.proofs.open.Reads as open-reads
 use Rattle.writer.proofs.write_in.Reads as write-in-reads
+use Rattle.writer.proofs.write_sheet.Statement.{statement}
+use Rattle.writer.proofs.write_sheet.Tie as tie
 
--- src/lib.rt:197:11
 open-requires : tie.Need-open-requires
 open-requires c κs = search needs
 
--- src/lib.rt:198:25
 enum-known-n : tie.Need-enum-known-n
 enum-known-n c = search needs
 
--- src/lib.rt:199:26
 enum-known-s : tie.Need-enum-known-s
 enum-known-s c = search needs
 
--- src/lib.rt:199:32
 write-in-requires : tie.Need-write-in-requires
 write-in-requires c κs = opened-accepted _ _ (sym (c .before .before .before .before .before .before .«open» .ensures) ∙ c .before .before .before .before .s .given .1)
 
--- src/lib.rt:186:1
 returns : tie.Need-returns
-returns c = let e = decide-before (c .before .before .before .before .before .before .before .before .args .b .now) (length (c .before .before .before .before .before .before .before .before .args .marks .now)) (length (c .before .before .before .before .before .before .before .before .args .placement .now)) _ (counted-declined _ _ (counted-refused _ _ (sym (c .before .before .before .«open» .ensures) ∙ c .before .n .given .1))) in let u = refused (c .before .before .before .before .before .before .before .before .args .b .now) (c .before .before .before .before .before .before .before .before .args .marks .now) (c .before .before .before .before .before .before .before .before .args .placement .now) _ e in let v = write-refused (c .before .before .before .before .before .before .before .before .args .b .now) (length (c .before .before .before .before .before .before .before .before .args .marks .now)) (length (c .before .before .before .before .before .before .before .before .args .placement .now)) (c .before .before .before .before .before .before .before .before .args .sheet .now) _ e in (v .0, (u .1 .0, (u .1 .1, v .1)))
+returns c =
+    let s = c .before .before .before .before .before .before .before .before in
+    let e = decide-before (s .args .b .now) (length (s .args .marks .now)) (length (s .args .placement .now)) _ (counted-declined _ _ (counted-refused _ _ (sym (c .before .before .before .«open» .ensures) ∙ c .before .n .given .1))) in
+    let u = refused (s .args .b .now) (s .args .marks .now) (s .args .placement .now) _ e in
+    let v = write-refused (s .args .b .now) (length (s .args .marks .now)) (length (s .args .placement .now)) (s .args .sheet .now) _ e in
+    (v .0, (u .1 .0, (u .1 .1, v .1)))
 
--- src/lib.rt:186:1
 same-length : tie.Need-same-length
 same-length c = search needs
 
--- src/lib.rt:186:1
 same-length-2 : tie.Need-same-length-2
 same-length-2 c = search needs
 
--- src/lib.rt:186:1
 same-length-3 : tie.Need-same-length-3
 same-length-3 c = search needs
 
--- src/lib.rt:186:1
 returns-2 : tie.Need-returns-2
 returns-2 c = search needs
 
