@@ -113,6 +113,11 @@ module _ (b marks buffer : List ℕ) (d : Decidable b (length marks) (length buf
     pub found-meets-the-claims : MeetsClaims B found
     found-meets-the-claims = rw found-is (model .3)
 
+    -- "individuals sit as placed": each at the element of its placed type
+    pub individuals-sit-as-placed : (j : ℕ) → j < individuals B
+        → getD listed (found .element j) 0 ≡ seat (placementIn (placementAfter b (length marks) buffer) (individuals B)) j
+    individuals-sit-as-placed = rw (listed-is, Left.placement-reads b marks buffer d (model .0) (model .1)) (model .4)
+
     -- the placement that the buffer holds is "the first in dictionary order, individual 0 leading: every other placement at survivors that meets
     -- the claims comes later"
     pub placement-is-first : Foremost listed (individuals B) (HoldsAt B) (placementIn (placementAfter b (length marks) buffer) (individuals B))

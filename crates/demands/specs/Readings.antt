@@ -4,6 +4,7 @@ use mathlib.Core.Path.{_≡_, refl}
 use mathlib.Core.Option.{Option, none, some}
 use mathlib.Core.List.{List, [], _∷_, map}
 use Prim.Native.Nat.{ℕ, _+_, _*_}
+use lib.ListN.{length}
 use Rattle.chain.specs.Search.{first, rank}
 use Rattle.chain.specs.Lists.{table, highest, from, keep, each?}
 use Rattle.chain.specs.Digits.{digit}
@@ -19,7 +20,9 @@ use Rattle.sections.specs.Rules.{rulesRight?, rulesOf}
 use Rattle.sections.specs.Claims.{membershipsRight?, linksRight?, membershipsOf, linksOf}
 use Rattle.book.specs.Layout.{wordAt, sectionsOf, lengthRight?, editionRight?, stepsRight?, countsRight?, laidOut?}
 use Rattle.book.specs.Reading.{bookOf}
-use Rattle.book.specs.Opening.{bookQuestions}
+use Rattle.book.specs.Opening.{bookQuestions, fewCandidates?}
+use Rattle.decider.specs.Deciding.{decisionOf}
+use Rattle.decider.specs.declared.Decision.the-variants.{Decided}
 use Rattle.elimination.specs.Survivors.{fits?, settle, survivors}
 use Rattle.placement.specs.Dictionary.{tryEach}
 use Rattle.placement.specs.Outcome.{survivorsOf, holds?, placementAmong, placement, outcome}
@@ -136,3 +139,9 @@ books-accepted = refl
 pub books-read : map (λ q. answer (bookOf (q .bytes))) bookReadings ≡ map (λ q. q .says) bookReadings
 unfolding bookOf sectionsOf wordAt termsOf rulesOf membershipsOf linksOf table outcome placement placementAmong individuals highest tryEach holds? survivors settle fits? from keep each? candidates places link gradeIn value deep slot home homeAs bearer first opens? rank digit
 books-read = refl
+
+-- and so deciding answers, with buffers that suffice
+pub books-decided : map (λ q. decisionOf (q .bytes) 16384 16) bookReadings ≡ map (λ q. Decided (q .says .outcome-is) (length (q .says .survivors-are))) bookReadings
+unfolding decisionOf firstNo says lengthRight? editionRight? stepsRight? countsRight? laidOut? termsRight? rulesRight? membershipsRight? linksRight? fewCandidates?
+    bookOf sectionsOf wordAt termsOf rulesOf membershipsOf linksOf table outcome placement placementAmong individuals highest tryEach holds? survivors settle fits? from keep each? candidates places link gradeIn value deep slot home homeAs bearer first opens? rank digit
+books-decided = refl
