@@ -31,11 +31,6 @@ sections-short : (b : List ℕ) → CountsRight b → sectionsOf b .rules - sect
 unfolding sectionsOf
 sections-short b h = omega arith
 
-claims-short : (b : List ℕ) → CountsRight b
-    → (sectionsOf b .links - sectionsOf b .memberships ≤ 256) × (sectionsOf b .end - sectionsOf b .links ≤ 256)
-unfolding sectionsOf
-claims-short b h = (omega arith, omega arith)
-
 -- a term in range names a role of 0 to 7, or a name of 0 to 15
 role-in : (i : ℕ) (t : Term) → InRange i t → roleAbove t ≤ 8
 role-in i (name a) h = omega arith
@@ -109,13 +104,7 @@ module _ (b : List ℕ) (s : Sections) (ok : Right b s) where
         (λ i l. rw terms-count (ok .memberships-right i l .1 .0));
   }
 
-  -- the claims' sections, and the numbers that terms and claims may name, are within the format's bounds
-  pub right-claims : (length (membershipBytes b s) ≤ 256) × (length (linkBytes b s) ≤ 256)
-  right-claims =
-      let o = right-ordered b s ok in
-      rw (length-stretch b (s .memberships) (s .links) (omega arith), length-stretch b (s .links) (s .end) (omega arith), ok .sections-are)
-      (claims-short b (ok .counts-right))
-
+  -- the numbers that terms and claims may name are within the format's bounds
   pub right-individuals : individuals (bookOf b) ≤ 8
   right-individuals = omega (
     arith,
