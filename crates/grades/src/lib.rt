@@ -135,7 +135,7 @@ fn all_allows(steps: u8, level: u8, own: u8, child: u8) -> bool
 }
 
 // Does term `i` allow a link of grade `level` from the first row to the second?
-fn term_allows(
+pub fn term_allows(
     terms: &[u8],
     steps: u8,
     role: u8,

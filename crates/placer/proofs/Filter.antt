@@ -3,8 +3,8 @@
 use mathlib.Core.Path.{_≡_, refl, sym, ap, subst, _∙_}
 use mathlib.Core.Bool.{Bool}
 use mathlib.Core.Logic.{_↔_, ⊎-elim}
-use mathlib.Core.List.{List, _++_}
-use Prim.Native.Nat.{ℕ, zero, suc, _+_, _*_, _≤_, _<_}
+use mathlib.Core.List.{List}
+use Prim.Native.Nat.{ℕ, zero, suc, _+_, _*_, _<_}
 use native.Mathlib.Numerals.{add-one}
 use native.Mathlib.Decide.{ℕ-discrete}
 use native.Mathlib.Omega.{arith}
@@ -17,8 +17,7 @@ use Rattle.semantics.specs.Books.{at-least, at-most, Claimed}
 use Rattle.sections.specs.Terms.{termCount, termsOf, TermsRight}
 use Rattle.sections.specs.Claims.{senseOf, membershipAt, linkAt, MembershipsRight, LinksRight}
 use Rattle.sections.proofs.Terms.{length-terms, terms-ordered}
-use Rattle.grades.specs.Rows.{rowOf}
-use Rattle.grades.proofs.Rows.{HasGrades, front-grades, rows-link}
+use Rattle.grades.proofs.Rows.{HasGrades, rows-link}
 use Rattle.elimination.specs.Marks.{Marked}
 use Rattle.placer.specs.Claims.{gradingOf, RowFor, Alone}
 use Rattle.placer.specs.Filter.{MembershipBy, MembershipsBy, SelvesBy, Allowed, Filtered, Column}
@@ -42,10 +41,6 @@ membership-told r ms j row i who term a b e t = tells-map r (λ h _. subst Met e
     Met x = Claimed (membershipAt ms i .sense) (membershipAt ms i .grade) (getD row x 0)
 
 -- ---- the claims that mention one individual alone
-
--- a row that was filled
-pub row-filled : (N : ℕ) (ts : List ℕ) (c : ℕ) (row x : List ℕ) → termCount ts ≤ length row → row ≡ rowOf (gradingOf N ts) c ++ x → RowFor N ts c row
-row-filled N ts c row x h e = record { long = h; grades = λ i l. rw e (front-grades (gradingOf N ts) c x i (rw (length-terms ts) l)) }
 
 module _ (N : ℕ) (ts ms ls : List ℕ) (right : TermsRight ts) (members : MembershipsRight ms N (termCount ts)) (links : LinksRight ls N) (j c : ℕ) (row : List ℕ)
     (is : RowFor N ts c row) where

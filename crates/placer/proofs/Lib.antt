@@ -1,4 +1,6 @@
 pub mod Walk
+pub mod Rows
 pub mod Filter
+pub mod Quantified
 pub mod Seats
 pub mod Placing

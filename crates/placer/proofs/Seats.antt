@@ -1,28 +1,28 @@
--- Laws of seating: what the rows kept decide, what one individual more comes to, and the turns of the loop over candidates.
+-- Laws of seating: what the rows of those seated decide, what one individual more comes to, and the turns of the loop over candidates.
 -- Assumes nothing.
 use mathlib.Core.Path.{_≡_, refl, sym, ap, ap₂, subst, _∙_}
 use mathlib.Core.Logic.{⊎-elim, _↔_}
 use mathlib.Core.Option.{Option, none, some}
-use mathlib.Core.List.{List, [], _∷_, _++_, append-assoc}
-use Prim.Native.Nat.{ℕ, suc, _+_, _-_, _*_, _≤_, _<_}
+use mathlib.Core.List.{List, [], _∷_, _++_}
+use Prim.Native.Nat.{ℕ, suc, _+_, _-_, _≤_, _<_}
 use native.Mathlib.Numerals.{add-one}
 use native.Mathlib.Omega.{arith}
-use lib.ListN.{length, getD, take, drop, set, List·getD-append}
-use lib.Seq.{take-suc, take-suc-set, take-set-le, take-take, drop-cons, getD-take, getD-drop, getD-append-add, getD-set-same, getD-set-other, length-take-le}
+use lib.ListN.{length, getD, take, drop, set}
+use lib.Seq.{take-suc, take-suc-set, take-set-le, take-take, drop-cons, getD-take, getD-set-same, getD-set-other, length-take-le}
 use Rattle.chain.proofs.Search.{below-cases}
 use Rattle.semantics.specs.Books.{LinkClaim}
-use Rattle.semantics.specs.Candidates.{gradeIn}
 use Rattle.semantics.specs.Links.{link}
 use Rattle.sections.specs.Terms.{termCount, termsOf, TermsRight}
 use Rattle.sections.specs.Claims.{claimCount, linkAt, LinksRight}
-use Rattle.sections.proofs.Terms.{length-terms, terms-ordered}
-use Rattle.grades.specs.Rows.{rowOf}
-use Rattle.grades.proofs.Rows.{HasGrades, front-grades, rows-link}
+use Rattle.sections.proofs.Terms.{terms-ordered}
+use Rattle.grades.proofs.Rows.{rows-link}
 use Rattle.placement.specs.Outcome.{seat}
 use Rattle.placer.specs.Walk.{walk}
 use Rattle.placer.specs.Claims.{gradingOf, latest, LinkMet}
 use Rattle.placer.specs.Filter.{Allowed}
-use Rattle.placer.specs.Seats.{May, may?, walkOf, rowAt, LinkBy, Kept}
+use Rattle.placer.specs.Rows.{rowAt, RowIn}
+use Rattle.placer.specs.Seats.{May, may?, walkOf, LinkBy, Seated}
+use Rattle.placer.proofs.Rows.{row-has}
 use Rattle.placer.proofs.Walk.{rest, rest-start, rest-end, rest-not, rest-back, rest-found}
 
 -- ---- the seats of those before and of the next one
@@ -35,56 +35,30 @@ pub link-same : (N : ℕ) (ts : List ℕ) (s t : ℕ → ℕ) (q : LinkClaim) �
     → LinkMet (gradingOf N ts) s q → LinkMet (gradingOf N ts) t q
 link-same N ts s t q e f h = subst (λ (x : ℕ). q .grade ≤ x) (ap₂ (λ (c d : ℕ). link (gradingOf N ts) (q .role) c d) e f) h
 
--- ---- the rows kept
+-- ---- the rows of those seated
 
--- a row that is kept, by the number that code reads for its individual
-pub row-part : (rows : List ℕ) (w j : ℕ) → w ≡ j → take (64 * w + 64 - 64 * w) (drop (64 * w) rows) ≡ rowAt rows j
-row-part rows w j e = let z : 64 * w + 64 - 64 * w ≡ 64 = omega arith in rw (z, e) refl
+module _ (N : ℕ) (ts rows : List ℕ) where
+  pub seated-same : (v u : List ℕ) (k : ℕ) → take k u ≡ take k v → Seated N ts rows v k → Seated N ts rows u k
+  seated-same v u k e h j l =
+      subst (λ (c : ℕ). (c < 16384) × RowIn N ts rows c)
+      (sym (getD-take k v j 0 l) ∙ ap (λ (p : List ℕ). getD p j 0) (sym e) ∙ getD-take k u j 0 l) (h j l)
 
-module _ (N : ℕ) (ts : List ℕ) where
-  -- a row that is kept, as a row by itself
-  kept-row : (rows seats : List ℕ) (k : ℕ) → termCount ts ≤ 64 → Kept N ts rows seats k → (j : ℕ) → j < k
-      → HasGrades (gradingOf N ts) (getD seats j 0) (rowAt rows j)
-  kept-row rows seats k few h j l i m =
-      let n : i < termCount ts = rw (← length-terms ts) m in
-      getD-take 64 (drop (64 * j) rows) i 0 (omega arith) ∙ getD-drop (64 * j) rows i 0 ∙ h j l i n
+  -- the next one sits at c
+  pub seated-next : (v : List ℕ) (k c : ℕ) → k < length v → c < 16384 → RowIn N ts rows c → Seated N ts rows v k → Seated N ts rows (set v k c) (k + 1)
+  seated-next v k c in-seats small row h j l = ⊎-elim
+      (λ e. subst (λ (x : ℕ). (x < 16384) × RowIn N ts rows x) (sym (ap (λ (x : ℕ). getD (set v k c) x 0) e ∙ getD-set-same v k c 0 in-seats)) (small, row))
+      (λ z. subst (λ (x : ℕ). (x < 16384) × RowIn N ts rows x) (sym (getD-set-other v k j c 0 (λ u. omega arith))) (h j z))
+      (below-cases k j (rw (← add-one k) l))
 
-  pub kept-less : (rows seats : List ℕ) (k : ℕ) → Kept N ts rows seats (k + 1) → Kept N ts rows seats k
-  kept-less rows seats k h j l = h j (omega arith)
-
-  -- the next one's row is filled
-  pub kept-next : (rows seats new x y : List ℕ) (k c : ℕ) → 64 * k ≤ length rows → k < length seats → termCount ts ≤ 64
-      → new ≡ take (64 * k) rows ++ ((rowOf (gradingOf N ts) c ++ x) ++ y) → Kept N ts rows seats k → Kept N ts new (set seats k c) (k + 1)
-  kept-next rows seats new x y k c long in-seats few e h j l i m = ⊎-elim newest earlier (below-cases k j (rw (← add-one k) l))
-    where
-      front : length (take (64 * k) rows) ≡ 64 * k
-      front = length-take-le (64 * k) rows long
-
-      newest : j ≡ k → getD new (64 * j + i) 0 ≡ gradeIn (gradingOf N ts) (getD (set seats k c) j 0) i
-      newest z =
-          rw (z, getD-set-same seats k c 0 in-seats)
-          (ap (λ (q : List ℕ). getD q (64 * k + i) 0) e
-          ∙ ap (λ (s : ℕ). getD (take (64 * k) rows ++ ((rowOf (gradingOf N ts) c ++ x) ++ y)) (s + i) 0) (sym front)
-          ∙ getD-append-add (take (64 * k) rows) ((rowOf (gradingOf N ts) c ++ x) ++ y) i 0
-          ∙ ap (λ (q : List ℕ). getD q i 0) (append-assoc (rowOf (gradingOf N ts) c) x y)
-          ∙ front-grades (gradingOf N ts) c (x ++ y) i (rw (length-terms ts) m))
-
-      earlier : j < k → getD new (64 * j + i) 0 ≡ gradeIn (gradingOf N ts) (getD (set seats k c) j 0) i
-      earlier z =
-          ap (λ (q : List ℕ). getD q (64 * j + i) 0) e
-          ∙ List·getD-append (take (64 * k) rows) ((rowOf (gradingOf N ts) c ++ x) ++ y) 0 (64 * j + i) (omega (arith, front))
-          ∙ getD-take (64 * k) rows (64 * j + i) 0 (omega arith)
-          ∙ h j z i m
-          ∙ ap (λ (s : ℕ). gradeIn (gradingOf N ts) s i) (sym (getD-set-other seats k j c 0 (λ u. omega arith)))
-
-  -- the rows of those seated by v, the next one among them, decide the link claims
-  module _ (ls : List ℕ) (right : TermsRight ts) (links : LinksRight ls N) (few : termCount ts ≤ 64) (rows v : List ℕ) (k : ℕ)
-      (kept : Kept N ts rows v (k + 1)) where
-    by-rows : (i : ℕ) → i < claimCount ls → latest (linkAt ls i) ≡ k → LinkMet (gradingOf N ts) (seat v) (linkAt ls i) ↔ LinkBy N ts ls rows k i
+  -- their rows, the next one's among them, decide the link claims
+  module _ (ls : List ℕ) (right : TermsRight ts) (links : LinksRight ls N) (few : termCount ts ≤ 64) (v : List ℕ) (k : ℕ)
+      (seated : Seated N ts rows v (k + 1)) where
+    by-rows : (i : ℕ) → i < claimCount ls → latest (linkAt ls i) ≡ k → LinkMet (gradingOf N ts) (seat v) (linkAt ls i) ↔ LinkBy N ts ls rows v k i
     by-rows i l e =
         let u = rows-link N (termsOf ts) (terms-ordered ts right) (linkAt ls i .role) (seat v (linkAt ls i .source)) (seat v (linkAt ls i .target))
-        (rowAt rows (linkAt ls i .source)) (rowAt rows (linkAt ls i .target))
-        (kept-row rows v (k + 1) few kept (linkAt ls i .source) (omega arith)) (kept-row rows v (k + 1) few kept (linkAt ls i .target) (omega arith))
+        (rowAt rows (seat v (linkAt ls i .source))) (rowAt rows (seat v (linkAt ls i .target)))
+        (row-has N ts rows (seat v (linkAt ls i .source)) few (seated (linkAt ls i .source) (omega arith) .1))
+        (row-has N ts rows (seat v (linkAt ls i .target)) few (seated (linkAt ls i .target) (omega arith) .1))
         (linkAt ls i .grade) (links i l .1 .1 .1) in
         (λ h _. u .1 h, λ f. u .0 (f e))
 
@@ -122,22 +96,22 @@ module _ (N : ℕ) (ts ls table : List ℕ) (count n k : ℕ) (q : List ℕ) whe
           w ∙ rest-not (May N ts ls table) (may? N ts ls table) count (n - (k + 1)) q c h
           (λ m. a (subst (λ (j : ℕ). Allowed table j c) len (m .allowed)))
 
-      module _ (right : TermsRight ts) (links : LinksRight ls N) (few : termCount ts ≤ 64) (rows : List ℕ) (kept : Kept N ts rows (set seats k c) (k + 1)) where
-        met : (i : ℕ) → i < claimCount ls → latest (linkAt ls i) ≡ k → LinkMet (gradingOf N ts) (seat (q ++ c ∷ [])) (linkAt ls i) ↔ LinkBy N ts ls rows k i
+      module _ (right : TermsRight ts) (links : LinksRight ls N) (few : termCount ts ≤ 64) (rows : List ℕ) (seated : Seated N ts rows (set seats k c) (k + 1)) where
+        met : (i : ℕ) → i < claimCount ls → latest (linkAt ls i) ≡ k → LinkMet (gradingOf N ts) (seat (q ++ c ∷ [])) (linkAt ls i) ↔ LinkBy N ts ls rows (set seats k c) k i
         met i l e =
-            let u = by-rows N ts ls right links few rows (set seats k c) k kept i l e in
+            let u = by-rows N ts rows ls right links few (set seats k c) k seated i l e in
             let a : linkAt ls i .source ≤ k = omega arith in
             let b : linkAt ls i .target ≤ k = omega arith in (
               λ m. u .0 (link-same N ts (seat (q ++ c ∷ [])) (seat (set seats k c)) (linkAt ls i) (sits _ a) (sits _ b) m),
               λ m. link-same N ts (seat (set seats k c)) (seat (q ++ c ∷ [])) (linkAt ls i) (sym (sits _ a)) (sym (sits _ b)) (u .1 m),
             )
 
-        pub turn-unlinked : ¬ ((i : ℕ) → i < claimCount ls → LinkBy N ts ls rows k i) → W ≡ restOf N ts ls table count n k q (c + 1)
+        pub turn-unlinked : ¬ ((i : ℕ) → i < claimCount ls → LinkBy N ts ls rows (set seats k c) k i) → W ≡ restOf N ts ls table count n k q (c + 1)
         turn-unlinked b =
             w ∙ rest-not (May N ts ls table) (may? N ts ls table) count (n - (k + 1)) q c h
             (λ m. b (λ i l e. met i l e .0 (m .linked i l (e ∙ sym len)) e))
 
-        module _ (a : Allowed table k c) (b : (i : ℕ) → i < claimCount ls → LinkBy N ts ls rows k i) where
+        module _ (a : Allowed table k c) (b : (i : ℕ) → i < claimCount ls → LinkBy N ts ls rows (set seats k c) k i) where
           may : May N ts ls table q c
           may = record {
             allowed = subst (λ (j : ℕ). Allowed table j c) (sym len) a;

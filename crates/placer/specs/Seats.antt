@@ -1,16 +1,14 @@
--- Placing the next individual: at a candidate that the table allows, if the link claims that it completes are met. The rows of grades of those
--- placed are kept, 64 bytes for each.
+-- Placing the next individual: at a candidate that the table allows, if the link claims that it completes are met.
 -- Assumes nothing.
 use mathlib.Core.Path.{_≡_}
 use mathlib.Core.Option.{Option}
 use mathlib.Core.List.{List, [], _∷_, _++_}
 use Prim.Native.Nat.{ℕ, _+_, _*_, _≤_, _<_}
 use native.Mathlib.Decide.{ℕ-discrete, decLe}
-use lib.ListN.{length, getD, take, drop}
+use lib.ListN.{length, getD}
 use Rattle.chain.specs.Decisions.{dec-imp}
 use Rattle.chain.specs.Search.{all?}
 use Rattle.chain.specs.Lists.{from}
-use Rattle.semantics.specs.Candidates.{gradeIn}
 use Rattle.semantics.specs.Links.{link}
 use Rattle.sections.specs.Terms.{termCount, termsOf, TermsRight}
 use Rattle.sections.specs.Claims.{claimCount, linkAt, LinksRight}
@@ -18,7 +16,9 @@ use Rattle.grades.specs.Rows.{RowsAllow}
 use Rattle.placement.specs.Outcome.{seat}
 use Rattle.placer.specs.Walk.{walk}
 use Rattle.placer.specs.Claims.{gradingOf, latest, LinkMet}
+use Rattle.placer.specs.Rows.{rowAt, RowIn}
 use Rattle.placer.specs.Filter.{Allowed}
+use Rattle.placer.specs.Quantified.{Collected}
 
 module _ (N : ℕ) (ts ls table : List ℕ) where
   -- the individual after those seated by q may have candidate c, and every link claim whose last individual it is is met
@@ -44,28 +44,27 @@ module _ (N : ℕ) (ts ls table : List ℕ) where
   unfolding walk may? from
   walkOf count k q = walk May may? (from 0 count) k q
 
--- ---- rows
+-- ---- the rows of those seated
 
--- the row kept for individual j
-abbrev pub rowAt : (rows : List ℕ) (j : ℕ) → List ℕ
-rowAt rows j = take 64 (drop (64 * j) rows)
-
--- link claim i is met by the rows, if individual k is the last that it mentions
-abbrev pub LinkBy : (N : ℕ) (ts ls rows : List ℕ) (k i : ℕ) → Type 0
-LinkBy N ts ls rows k i =
+-- link claim i is met by the rows of the candidates at which those seated sit, if individual k is the last that it mentions
+abbrev pub LinkBy : (N : ℕ) (ts ls rows seats : List ℕ) (k i : ℕ) → Type 0
+LinkBy N ts ls rows seats k i =
     latest (linkAt ls i) ≡ k
-    → RowsAllow N (termsOf ts) (linkAt ls i .role) (rowAt rows (linkAt ls i .source)) (rowAt rows (linkAt ls i .target)) (linkAt ls i .grade)
+    → RowsAllow N (termsOf ts) (linkAt ls i .role) (rowAt rows (seat seats (linkAt ls i .source))) (rowAt rows (seat seats (linkAt ls i .target))) (linkAt ls i .grade)
 
--- the rows kept for the first k individuals are those of the candidates at which they sit
-abbrev pub Kept : (N : ℕ) (ts rows seats : List ℕ) (k : ℕ) → Type 0
-Kept N ts rows seats k = (j : ℕ) → j < k → (i : ℕ) → i < termCount ts → getD rows (64 * j + i) 0 ≡ gradeIn (gradingOf N ts) (getD seats j 0) i
+-- the first k individuals sit at candidates whose rows are in the table
+abbrev pub Seated : (N : ℕ) (ts rows seats : List ℕ) (k : ℕ) → Type 0
+Seated N ts rows seats k = (j : ℕ) → j < k → (seat seats j < 16384) × RowIn N ts rows (seat seats j)
 
 -- ---- what stays as it is throughout: n individuals are placed at candidates below count
 
-pub record Setting (N : ℕ) (ts ls : List ℕ) (count n : ℕ) (table : List ℕ) : Type 0 where
+pub record Setting (N : ℕ) (ts quantified ls : List ℕ) (count n : ℕ) (table rows : List ℕ) : Type 0 where
   pub terms-right : TermsRight ts
+  pub collected : Collected ts quantified (termCount ts) (length quantified)
   pub links-right : LinksRight ls N
   pub terms-few : termCount ts ≤ 64
   pub candidates-few : count ≤ 16384
   pub individuals-few : n ≤ 8
   pub table-long : 131072 ≤ length table
+  pub rows-long : 1048576 ≤ length rows
+  pub allowed-rows : (j c : ℕ) → j < n → c < count → Allowed table j c → RowIn N ts rows c

@@ -3,12 +3,12 @@ ghost use mathlib.Core.Path.{_≡_};
 ghost use mathlib.Core.List.{[]};
 ghost use mathlib.Core.Logic.{_↔_};
 ghost use Prim.Native.Nat.{ℕ, _+_, _-_, _*_, _<_, _≤_};
-ghost use lib.ListN.{length, getD, take, drop, set};
+ghost use lib.ListN.{length, getD, take, drop};
 ghost use Rattle.chain.specs.Decisions.{Tells};
 ghost use Rattle.semantics.specs.Books.{Claimed};
 ghost use Rattle.semantics.specs.Books.{individuals as individualsOf};
 ghost use Rattle.sections.specs.Terms.{termCount, termsOf, TermsRight};
-ghost use Rattle.sections.specs.Claims.{claimCount, senseOf, membershipAt, linkAt, MembershipsRight, LinksRight};
+ghost use Rattle.sections.specs.Claims.{claimCount, senseOf, membershipAt, MembershipsRight, LinksRight};
 ghost use Rattle.sections.specs.Books.{bookOfSections};
 ghost use Rattle.grades.specs.Rows.{RowsAllow};
 ghost use Rattle.elimination.specs.Marks.{marked};
@@ -16,8 +16,41 @@ ghost use Rattle.placement.specs.Outcome.{placementAmong};
 ghost use Rattle.placer.specs.Walk.{placed};
 ghost use Rattle.placer.specs.Claims.{gradingOf, RowFor, Alone};
 ghost use Rattle.placer.specs.Filter.{MembershipBy, SelfBy, MembershipsBy, SelvesBy, Filtered, Column, Lacks, Vain};
-ghost use Rattle.placer.specs.Seats.{walkOf, rowAt, LinkBy, Kept, Setting};
+ghost use Rattle.placer.specs.Rows.{rowAt, RowIn, Rowed};
+ghost use Rattle.placer.specs.Quantified.{Collected};
+ghost use Rattle.placer.specs.Seats.{walkOf, LinkBy, Seated, Setting};
 use sections::wide;
+
+// ---- the rows of the marked candidates, 64 bytes for each
+
+// Puts the row of candidate `c` into its place.
+fn put_row(terms: &[u8], steps: u8, c: usize, rows: &mut [u8])
+    requires { ⌜ TermsRight (now terms) ⌝ }
+    requires { ⌜ (termCount (now terms) ≤ 64) × (c < 16384) × (1048576 ≤ length (now rows)) ⌝ }
+    ensures { λ _. ⌜ take (64 * c) (now (rows .exit)) ≡ take (64 * c) (now (rows .entry)) ⌝ }
+    ensures { λ _. ⌜ RowIn steps (now (terms .entry)) (now (rows .exit)) c ⌝ }
+{
+    let start = 64 * c;
+    let end = start + 64;
+    grades::fill_row(terms, steps, c, &mut rows[start..end]);
+}
+
+// The rows are worked out once: the search tries a candidate many times.
+fn fill_rows(terms: &[u8], steps: u8, marks: &[u8], count: usize, rows: &mut [u8])
+    requires { ⌜ TermsRight (now terms) ⌝ }
+    requires { ⌜ (termCount (now terms) ≤ 64) × (count ≤ 16384) × (count ≤ length (now marks)) × (1048576 ≤ length (now rows)) ⌝ }
+    ensures { λ _. ⌜ Rowed steps (now (terms .entry)) (now (marks .entry)) count (now (rows .exit)) ⌝ }
+{
+    let mut filled = 0;
+    while filled < count {
+        let c = filled;
+        filled += 1;
+        if marks[c] != 1 {
+            continue;
+        }
+        put_row(terms, steps, c, rows);
+    }
+}
 
 // ---- the claims that mention one individual alone, by the row of a candidate
 
@@ -147,7 +180,7 @@ fn allow_row(
     }
 }
 
-// The same, working the row out.
+// The same, by the rows of all candidates.
 fn allow_candidate(
     terms: &[u8],
     steps: u8,
@@ -155,16 +188,18 @@ fn allow_candidate(
     links: &[u8],
     individuals: usize,
     c: usize,
+    rows: &[u8],
     table: &mut [u8],
 )
     requires { ⌜ TermsRight (now terms) ⌝ }
     requires { ⌜ MembershipsRight (now memberships) steps (termCount (now terms)) ⌝ }
     requires { ⌜ LinksRight (now links) steps ⌝ }
-    requires { ⌜ (termCount (now terms) ≤ 64) × (individuals ≤ 8) × (c < 16384) × (131072 ≤ length (now table)) ⌝ }
+    requires { ⌜ RowIn steps (now terms) (now rows) c ⌝ }
+    requires { ⌜ (termCount (now terms) ≤ 64) × (individuals ≤ 8) × (c < 16384) × (1048576 ≤ length (now rows)) × (131072 ≤ length (now table)) ⌝ }
     ensures { λ _. ⌜ Column steps (now (terms .entry)) (now (memberships .entry)) (now (links .entry)) individuals c (now (table .entry)) (now (table .exit)) ⌝ }
 {
-    let mut row = [0u8; 64];
-    grades::fill_row(terms, steps, c, &mut row);
+    let start = 64 * c;
+    let end = start + 64;
     allow_row(
         terms,
         steps,
@@ -172,7 +207,7 @@ fn allow_candidate(
         links,
         individuals,
         c,
-        &row,
+        &rows[start..end],
         table,
     );
 }
@@ -186,13 +221,15 @@ fn fill_table(
     marks: &[u8],
     count: usize,
     individuals: usize,
+    rows: &[u8],
     table: &mut [u8],
 )
     requires { ⌜ TermsRight (now terms) ⌝ }
     requires { ⌜ MembershipsRight (now memberships) steps (termCount (now terms)) ⌝ }
     requires { ⌜ LinksRight (now links) steps ⌝ }
     requires { ⌜ (termCount (now terms) ≤ 64) × (count ≤ 16384) × (count ≤ length (now marks)) × (individuals ≤ 8) ⌝ }
-    requires { ⌜ (131072 ≤ length (now table)) × ((i : ℕ) → getD (now table) i 0 ≡ 0) ⌝ }
+    requires { ⌜ Rowed steps (now terms) (now marks) count (now rows) ⌝ }
+    requires { ⌜ (1048576 ≤ length (now rows)) × (131072 ≤ length (now table)) × ((i : ℕ) → getD (now table) i 0 ≡ 0) ⌝ }
     ensures { λ _. ⌜ Filtered steps (now (terms .entry)) (now (memberships .entry)) (now (links .entry)) (now (marks .entry)) individuals count (now (table .exit)) ⌝ }
 {
     let mut entered = 0;
@@ -202,7 +239,16 @@ fn fill_table(
         if marks[c] != 1 {
             continue;
         }
-        allow_candidate(terms, steps, memberships, links, individuals, c, table);
+        allow_candidate(
+            terms,
+            steps,
+            memberships,
+            links,
+            individuals,
+            c,
+            rows,
+            table,
+        );
     }
 }
 
@@ -236,29 +282,93 @@ fn in_vain(table: &[u8], count: usize, individuals: usize) -> bool
     false
 }
 
-// ---- one individual after another
+// ---- the quantified terms, which alone bound a link
 
-// Is a link of grade `level` allowed between the rows of two individuals?
-fn kept_allow(
+// Writes the number of term `i` as entry `m` where the term is quantified. The number of entries.
+fn put_quantified(terms: &[u8], quantified: &mut [u8], i: usize, m: usize) -> usize
+    requires { ⌜ (i < termCount (now terms)) × (termCount (now terms) ≤ 64) × (64 ≤ length (now quantified)) ⌝ }
+    requires { ⌜ Collected (now terms) (now quantified) i m ⌝ }
+    ensures { λ r. ⌜ Collected (now (terms .entry)) (now (quantified .exit)) (i + 1) r ⌝ }
+{
+    let kind = terms[3 * i];
+    if kind < 4 {
+        return m;
+    }
+    if 5 < kind {
+        return m;
+    }
+    quantified[m] = i as u8;
+    m + 1
+}
+
+// Writes the numbers of the quantified terms. How many they are.
+fn collect(terms: &[u8], quantified: &mut [u8]) -> usize
+    requires { ⌜ (termCount (now terms) ≤ 64) × (64 ≤ length (now quantified)) ⌝ }
+    ensures { λ r. ⌜ Collected (now (terms .entry)) (now (quantified .exit)) (termCount (now (terms .entry))) r ⌝ }
+{
+    let count = terms.len() / 3;
+    let mut m = 0;
+    let mut i = 0;
+    while i < count {
+        m = put_quantified(terms, quantified, i, m);
+        i += 1;
+    }
+    m
+}
+
+// Is a link of grade `level` allowed from the first row to the second? The first term that does not allow it decides.
+fn quantified_allow(
     terms: &[u8],
     steps: u8,
+    quantified: &[u8],
+    role: u8,
+    level: u8,
+    first: &[u8],
+    second: &[u8],
+) -> bool
+    requires { ⌜ TermsRight (now terms) ⌝ }
+    requires { ⌜ Collected (now terms) (now quantified) (termCount (now terms)) (length (now quantified)) ⌝ }
+    requires { ⌜ (level ≤ steps) × (termCount (now terms) ≤ length (now first)) × (termCount (now terms) ≤ length (now second)) ⌝ }
+    ensures { λ r. ⌜ Tells r (RowsAllow steps (termsOf (now (terms .entry))) role (now (first .entry)) (now (second .entry)) level) ⌝ }
+{
+    let count = quantified.len();
+    let mut x = 0;
+    while x < count {
+        let i = wide(quantified[x]);
+        if !grades::term_allows(terms, steps, role, level, first, second, i) {
+            return false;
+        }
+        x += 1;
+    }
+    true
+}
+
+// ---- one individual after another
+
+// Is a link of grade `level` allowed from candidate `c` to candidate `d`, by their rows?
+fn candidates_allow(
+    terms: &[u8],
+    steps: u8,
+    quantified: &[u8],
     role: u8,
     level: u8,
     rows: &[u8],
-    source: u8,
-    target: u8,
+    c: usize,
+    d: usize,
 ) -> bool
     requires { ⌜ TermsRight (now terms) ⌝ }
-    requires { ⌜ (level ≤ steps) × (termCount (now terms) ≤ 64) × (source < 8) × (target < 8) × (512 ≤ length (now rows)) ⌝ }
-    ensures { λ r. ⌜ Tells r (RowsAllow steps (termsOf (now (terms .entry))) role (rowAt (now (rows .entry)) source) (rowAt (now (rows .entry)) target) level) ⌝ }
+    requires { ⌜ Collected (now terms) (now quantified) (termCount (now terms)) (length (now quantified)) ⌝ }
+    requires { ⌜ (level ≤ steps) × (termCount (now terms) ≤ 64) × (c < 16384) × (d < 16384) × (1048576 ≤ length (now rows)) ⌝ }
+    ensures { λ r. ⌜ Tells r (RowsAllow steps (termsOf (now (terms .entry))) role (rowAt (now (rows .entry)) c) (rowAt (now (rows .entry)) d) level) ⌝ }
 {
-    let first = 64 * wide(source);
+    let first = 64 * c;
     let first_end = first + 64;
-    let second = 64 * wide(target);
+    let second = 64 * d;
     let second_end = second + 64;
-    grades::rows_allow(
+    quantified_allow(
         terms,
         steps,
+        quantified,
         role,
         level,
         &rows[first..first_end],
@@ -266,40 +376,64 @@ fn kept_allow(
     )
 }
 
-// Do the rows meet link claim `i`, if individual `k` is the last that it mentions?
-fn link_met(terms: &[u8], steps: u8, links: &[u8], i: usize, rows: &[u8], k: usize) -> bool
+// Is link claim `i` met by those seated, if individual `k` is the last that it mentions?
+fn link_met(
+    terms: &[u8],
+    steps: u8,
+    quantified: &[u8],
+    links: &[u8],
+    i: usize,
+    rows: &[u8],
+    seats: &[u16],
+    k: usize,
+) -> bool
     requires { ⌜ TermsRight (now terms) ⌝ }
+    requires { ⌜ Collected (now terms) (now quantified) (termCount (now terms)) (length (now quantified)) ⌝ }
     requires { ⌜ LinksRight (now links) steps ⌝ }
-    requires { ⌜ (i < claimCount (now links)) × (termCount (now terms) ≤ 64) × (512 ≤ length (now rows)) ⌝ }
-    ensures { λ r. ⌜ Tells r (LinkBy steps (now (terms .entry)) (now (links .entry)) (now (rows .entry)) k i) ⌝ }
+    requires { ⌜ (i < claimCount (now links)) × (termCount (now terms) ≤ 64) × (1048576 ≤ length (now rows)) ⌝ }
+    requires { ⌜ (k < length (now seats)) × ((j : ℕ) → j ≤ k → getD (now seats) j 0 < 16384) ⌝ }
+    ensures { λ r. ⌜ Tells r (LinkBy steps (now (terms .entry)) (now (links .entry)) (now (rows .entry)) (now (seats .entry)) k i) ⌝ }
 {
     let source = links[4 * i + 1];
     let target = links[4 * i + 2];
     if wide(grades::greater(source, target)) != k {
         return true;
     }
-    kept_allow(
+    let c = seats[source as usize] as usize;
+    let d = seats[target as usize] as usize;
+    candidates_allow(
         terms,
         steps,
+        quantified,
         links[4 * i],
         links[4 * i + 3],
         rows,
-        source,
-        target,
+        c,
+        d,
     )
 }
 
-// Do the rows meet every link claim of which individual `k` is the last?
-fn links_met(terms: &[u8], steps: u8, links: &[u8], rows: &[u8], k: usize) -> bool
+// Is every link claim met of which individual `k` is the last?
+fn links_met(
+    terms: &[u8],
+    steps: u8,
+    quantified: &[u8],
+    links: &[u8],
+    rows: &[u8],
+    seats: &[u16],
+    k: usize,
+) -> bool
     requires { ⌜ TermsRight (now terms) ⌝ }
+    requires { ⌜ Collected (now terms) (now quantified) (termCount (now terms)) (length (now quantified)) ⌝ }
     requires { ⌜ LinksRight (now links) steps ⌝ }
-    requires { ⌜ (termCount (now terms) ≤ 64) × (512 ≤ length (now rows)) ⌝ }
-    ensures { λ r. ⌜ Tells r ((i : ℕ) → i < claimCount (now (links .entry)) → LinkBy steps (now (terms .entry)) (now (links .entry)) (now (rows .entry)) k i) ⌝ }
+    requires { ⌜ (termCount (now terms) ≤ 64) × (1048576 ≤ length (now rows)) ⌝ }
+    requires { ⌜ (k < length (now seats)) × ((j : ℕ) → j ≤ k → getD (now seats) j 0 < 16384) ⌝ }
+    ensures { λ r. ⌜ Tells r ((i : ℕ) → i < claimCount (now (links .entry)) → LinkBy steps (now (terms .entry)) (now (links .entry)) (now (rows .entry)) (now (seats .entry)) k i) ⌝ }
 {
     let count = links.len() / 4;
     let mut i = 0;
     while i < count {
-        if !link_met(terms, steps, links, i, rows, k) {
+        if !link_met(terms, steps, quantified, links, i, rows, seats, k) {
             return false;
         }
         i += 1;
@@ -307,38 +441,23 @@ fn links_met(terms: &[u8], steps: u8, links: &[u8], rows: &[u8], k: usize) -> bo
     true
 }
 
-// Seats individual `k`, those before it being seated, at candidate `c`, whose row is worked out for it.
-fn seat_next(terms: &[u8], steps: u8, k: usize, c: usize, rows: &mut [u8], seats: &mut [u16])
-    requires { ⌜ TermsRight (now terms) ⌝ }
-    requires { ⌜ (termCount (now terms) ≤ 64) × (k < 8) × (c < 16384) × (512 ≤ length (now rows)) × (k < length (now seats)) ⌝ }
-    requires { ⌜ Kept steps (now terms) (now rows) (now seats) k ⌝ }
-    ensures { λ _. ⌜ now (seats .exit) ≡ set (now (seats .entry)) k c ⌝ }
-    ensures { λ _. ⌜ Kept steps (now (terms .entry)) (now (rows .exit)) (now (seats .exit)) (k + 1) ⌝ }
-{
-    let start = 64 * k;
-    let end = start + 64;
-    grades::fill_row(terms, steps, c, &mut rows[start..end]);
-    seats[k] = c as u16;
-}
-
-// Places the individuals from `k` on, those before them being seated. Link claims are tested on the rows of those seated, and a candidate's row
-// is worked out once, when it is tried.
+// Places the individuals from `k` on, those before them being seated. Link claims are tested on the rows of the candidates at which they sit.
 fn place_from(
     terms: &[u8],
     steps: u8,
+    quantified: &[u8],
     links: &[u8],
     count: usize,
     individuals: usize,
     table: &[u8],
-    rows: &mut [u8],
+    rows: &[u8],
     seats: &mut [u16],
     k: usize,
 ) -> bool
-    requires { ⌜ Setting steps (now terms) (now links) count individuals (now table) ⌝ }
-    requires { ⌜ (k ≤ individuals) × (512 ≤ length (now rows)) × (individuals ≤ length (now seats)) ⌝ }
-    requires { ⌜ Kept steps (now terms) (now rows) (now seats) k ⌝ }
+    requires { ⌜ Setting steps (now terms) (now quantified) (now links) count individuals (now table) (now rows) ⌝ }
+    requires { ⌜ (k ≤ individuals) × (individuals ≤ length (now seats)) ⌝ }
+    requires { ⌜ Seated steps (now terms) (now rows) (now seats) k ⌝ }
     ensures { λ r. ⌜ take k (now (seats .exit)) ≡ take k (now (seats .entry)) ⌝ }
-    ensures { λ r. ⌜ Kept steps (now (terms .entry)) (now (rows .exit)) (now (seats .exit)) k ⌝ }
     ensures { λ r. ⌜ placed r (take (individuals - k) (drop k (now (seats .exit))))
         ≡ walkOf steps (now (terms .entry)) (now (links .entry)) (now (table .entry)) count (individuals - k) (take k (now (seats .entry))) ⌝ }
 {
@@ -352,13 +471,14 @@ fn place_from(
         if table[16384 * k + c] != 1 {
             continue;
         }
-        seat_next(terms, steps, k, c, rows, seats);
-        if !links_met(terms, steps, links, rows, k) {
+        seats[k] = c as u16;
+        if !links_met(terms, steps, quantified, links, rows, seats, k) {
             continue;
         }
         if place_from(
             terms,
             steps,
+            quantified,
             links,
             count,
             individuals,
@@ -373,7 +493,61 @@ fn place_from(
     false
 }
 
-// The same as `place`, with a table and rows that are lent.
+// The same as `place`, with the quantified terms, a table and rows that are lent.
+fn place_by(
+    terms: &[u8],
+    steps: u8,
+    quantified: &[u8],
+    memberships: &[u8],
+    links: &[u8],
+    marks: &[u8],
+    count: usize,
+    individuals: usize,
+    table: &mut [u8],
+    rows: &mut [u8],
+    seats: &mut [u16],
+) -> bool
+    requires { ⌜ TermsRight (now terms) ⌝ }
+    requires { ⌜ Collected (now terms) (now quantified) (termCount (now terms)) (length (now quantified)) ⌝ }
+    requires { ⌜ MembershipsRight (now memberships) steps (termCount (now terms)) ⌝ }
+    requires { ⌜ LinksRight (now links) steps ⌝ }
+    requires { ⌜ termCount (now terms) ≤ 64 ⌝ }
+    requires { ⌜ (count ≤ 16384) × (count ≤ length (now marks)) × (individuals ≡ individualsOf (bookOfSections steps (now terms) [] (now memberships) (now links)))
+        × (individuals ≤ length (now seats)) ⌝ }
+    requires { ⌜ (131072 ≤ length (now table)) × ((i : ℕ) → getD (now table) i 0 ≡ 0) × (1048576 ≤ length (now rows)) ⌝ }
+    ensures { λ r. ⌜ placed r (take individuals (now (seats .exit)))
+        ≡ placementAmong (bookOfSections steps (now (terms .entry)) [] (now (memberships .entry)) (now (links .entry))) (marked (now (marks .entry)) count) ⌝ }
+{
+    fill_rows(terms, steps, marks, count, rows);
+    fill_table(
+        terms,
+        steps,
+        memberships,
+        links,
+        marks,
+        count,
+        individuals,
+        rows,
+        table,
+    );
+    if in_vain(table, count, individuals) {
+        return false;
+    }
+    place_from(
+        terms,
+        steps,
+        quantified,
+        links,
+        count,
+        individuals,
+        table,
+        rows,
+        seats,
+        0,
+    )
+}
+
+// The same, with the quantified terms collected here.
 fn place_in(
     terms: &[u8],
     steps: u8,
@@ -392,33 +566,24 @@ fn place_in(
     requires { ⌜ termCount (now terms) ≤ 64 ⌝ }
     requires { ⌜ (count ≤ 16384) × (count ≤ length (now marks)) × (individuals ≡ individualsOf (bookOfSections steps (now terms) [] (now memberships) (now links)))
         × (individuals ≤ length (now seats)) ⌝ }
-    requires { ⌜ (131072 ≤ length (now table)) × ((i : ℕ) → getD (now table) i 0 ≡ 0) × (512 ≤ length (now rows)) ⌝ }
+    requires { ⌜ (131072 ≤ length (now table)) × ((i : ℕ) → getD (now table) i 0 ≡ 0) × (1048576 ≤ length (now rows)) ⌝ }
     ensures { λ r. ⌜ placed r (take individuals (now (seats .exit)))
         ≡ placementAmong (bookOfSections steps (now (terms .entry)) [] (now (memberships .entry)) (now (links .entry))) (marked (now (marks .entry)) count) ⌝ }
 {
-    fill_table(
+    let mut quantified = [0u8; 64];
+    let m = collect(terms, &mut quantified);
+    place_by(
         terms,
         steps,
+        &quantified[..m],
         memberships,
         links,
         marks,
         count,
         individuals,
         table,
-    );
-    if in_vain(table, count, individuals) {
-        return false;
-    }
-    place_from(
-        terms,
-        steps,
-        links,
-        count,
-        individuals,
-        table,
         rows,
         seats,
-        0,
     )
 }
 
@@ -444,7 +609,7 @@ pub fn place(
         ≡ placementAmong (bookOfSections steps (now (terms .entry)) [] (now (memberships .entry)) (now (links .entry))) (marked (now (marks .entry)) count) ⌝ }
 {
     let mut table = [0u8; 131072];
-    let mut rows = [0u8; 512];
+    let mut rows = [0u8; 1048576];
     place_in(
         terms,
         steps,

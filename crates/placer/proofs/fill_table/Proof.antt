@@ -11,17 +11,17 @@ use Rattle.placer.proofs.fill_table.Statement.{statement}
 use Rattle.placer.proofs.fill_table.Tie as tie
 
 abbrev Inv-loop : tie.InvT-loop
-Inv-loop terms steps memberships links marks count individuals table₀ entered₀ table entered =
+Inv-loop terms steps memberships links marks count individuals rows table₀ entered₀ table entered =
     (entered ≤ count) × (length table ≡ length table₀) × Filtered steps terms memberships links marks individuals entered table
 
 abbrev μ-loop : tie.MeasureT-loop
-μ-loop terms steps memberships links marks count individuals table₀ entered₀ table entered = count - entered
+μ-loop terms steps memberships links marks count individuals rows table₀ entered₀ table entered = count - entered
 
 loop-holds : tie.Need-loop-holds Inv-loop μ-loop
 loop-holds c =
-    let s = c .before .before .before .before .before in
+    let s = c .before .before .before .before .before .before in
     let a = s .args in
-    (omega arith, refl, filtered-start (a .steps) (a .terms .now) (a .memberships .now) (a .links .now) (a .marks .now) (a .individuals) (a .table .now) (s .pre .1 .1 .1 .1 .1))
+    (omega arith, refl, filtered-start (a .steps) (a .terms .now) (a .memberships .now) (a .links .now) (a .marks .now) (a .individuals) (a .table .now) (s .pre .1 .1 .1 .1 .1 .2))
 
 add-entered : tie.Need-add-entered Inv-loop μ-loop
 add-entered c = search needs
@@ -34,32 +34,35 @@ loop-less c = search needs
 
 loop-again : tie.Need-loop-again Inv-loop μ-loop
 loop-again c =
-    let s = c .before .before .before .before .before .before .before .before .before in
+    let s = c .before .before .before .before .before .before .before .before .before .before in
     let a = s .args in
-    (omega arith, c .before .before .before .loop .inv .1, filtered-off (a .steps) (a .terms .now) (a .memberships .now) (a .links .now) (a .marks .now) (a .individuals) (c .before .before .before .loop .entered) (omega (arith, c .before .before .loop-test .taken, s .pre .1 .1 .1 .0)) (c .before .before .before .loop .table) (c .if1 .taken) (c .before .before .before .loop .inv .2))
+    let l = c .before .before .before .loop in
+    (omega arith, l .inv .1, filtered-off (a .steps) (a .terms .now) (a .memberships .now) (a .links .now) (a .marks .now) (a .individuals) (l .entered) (omega (arith, c .before .before .loop-test .taken, s .pre .1 .1 .1 .0)) (l .table) (c .if1 .taken) (l .inv .2))
 
 allow-candidate-requires : tie.Need-allow-candidate-requires Inv-loop μ-loop
 allow-candidate-requires c κs =
-    let s = c .before .before .before .before .before .before .before .before .before .before in
+    let s = c .before .before .before .before .before .before .before .before .before .before .before in
     let p = s .pre .1 .1 .1 .0 in
-    (s .pre .0, (s .pre .1 .0, (s .pre .1 .1 .0, (p .0, p .3, omega (arith, c .before .before .before .loop-test .taken, p), omega (arith, c .before .before .before .before .loop .inv .1, s .pre .1 .1 .1 .1 .0)))))
+    let l = c .before .before .before .before .loop in
+    (s .pre .0, (s .pre .1 .0, (s .pre .1 .1 .0, (s .pre .1 .1 .1 .1 .0 (l .entered) (c .before .before .before .loop-test .taken) (c .before .if1 .left), (p .0, p .3, omega (arith, c .before .before .before .loop-test .taken, p), s .pre .1 .1 .1 .1 .1 .0, omega (arith, l .inv .1, s .pre .1 .1 .1 .1 .1 .1))))))
 
 loop-less-2 : tie.Need-loop-less-2 Inv-loop μ-loop
 loop-less-2 c = search needs
 
 loop-again-2 : tie.Need-loop-again-2 Inv-loop μ-loop
 loop-again-2 c =
-    let s = c .before .before .before .before .before .before .before .before .before .before .before .before .before in
+    let s = c .before .before .before .before .before .before .before .before .before .before .before .before .before .before in
     let a = s .args in
+    let l = c .before .before .before .before .before .before .before .loop in
     let f = c .before .before .allow-candidate in
-    (omega arith, f .kept .1 .1 .1 .1 .1 .1 .0 ∙ c .before .before .before .before .before .before .before .loop .inv .1, filtered-on (a .steps) (a .terms .now) (a .memberships .now) (a .links .now) (a .marks .now) (a .individuals) (c .before .before .before .before .before .before .before .loop .entered) (omega (arith, c .before .before .before .before .before .before .loop-test .taken, s .pre .1 .1 .1 .0)) (c .before .before .before .before .before .before .before .loop .table) (f .last .1 .1 .1 .1 .1 .1 .0) (c .before .before .before .before .if1 .left) (f .ensures) (c .before .before .before .before .before .before .before .loop .inv .2))
+    (omega arith, f .kept .1 .1 .1 .1 .1 .1 .1 .0 ∙ l .inv .1, filtered-on (a .steps) (a .terms .now) (a .memberships .now) (a .links .now) (a .marks .now) (a .individuals) (l .entered) (omega (arith, c .before .before .before .before .before .before .loop-test .taken, s .pre .1 .1 .1 .0)) (l .table) (f .last .1 .1 .1 .1 .1 .1 .1 .0) (c .before .before .before .before .if1 .left) (f .ensures) (l .inv .2))
 
 same-length : tie.Need-same-length Inv-loop μ-loop
 same-length c = c .before .loop .inv .1
 
 returns : tie.Need-returns Inv-loop μ-loop
 returns c =
-    let a = c .before .before .before .before .before .before .before .args in
+    let a = c .before .before .before .before .before .before .before .before .args in
     subst (λ (k : ℕ). Filtered (a .steps) (a .terms .now) (a .memberships .now) (a .links .now) (a .marks .now) (a .individuals) k (c .before .loop .table)) (omega arith) (c .before .loop .inv .2)
 
 pub fill-table-spec : {M : Type 1} → statement M

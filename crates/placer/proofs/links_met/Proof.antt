@@ -11,16 +11,19 @@ use Rattle.placer.proofs.links_met.Statement.{statement}
 use Rattle.placer.proofs.links_met.Tie as tie
 
 abbrev Inv-loop : tie.InvT-loop
-Inv-loop terms steps links rows k count i₀ i = (i ≤ claimCount links) × ((x : ℕ) → x < i → LinkBy steps terms links rows k x)
+Inv-loop terms steps quantified links rows seats k count i₀ i =
+    (i ≤ claimCount links) × ((x : ℕ) → x < i → LinkBy steps terms links rows seats k x)
 
 abbrev μ-loop : tie.MeasureT-loop
-μ-loop terms steps links rows k count i₀ i = claimCount links - i
+μ-loop terms steps quantified links rows seats k count i₀ i = claimCount links - i
 
 loop-holds : tie.Need-loop-holds Inv-loop μ-loop
 loop-holds c = (omega arith, below-none _)
 
 link-met-requires : tie.Need-link-met-requires Inv-loop μ-loop
-link-met-requires c κs = search needs
+link-met-requires c κs =
+    let s = c .before .before .before .before .before .before .before in
+    (s .pre .0, (s .pre .1 .0, (s .pre .1 .1 .0, ((omega arith, s .pre .1 .1 .1 .0 .0, s .pre .1 .1 .1 .0 .1), s .pre .1 .1 .1 .1))))
 
 returns : tie.Need-returns Inv-loop μ-loop
 returns c = tells-no (λ h. told-no _ (c .before .link-met .ensures) (c .if1 .taken) (h (c .before .before .before .loop .i) (omega arith)))

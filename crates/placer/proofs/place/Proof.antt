@@ -13,15 +13,15 @@ slice-aggregate-place-in : tie.Need-slice-aggregate-place-in
 slice-aggregate-place-in c = search needs
 
 slice-aggregate-place-in-2 : tie.Need-slice-aggregate-place-in-2
-slice-aggregate-place-in-2 c = search needs
+slice-aggregate-place-in-2 c = sym (length-replicate {A = ℕ} 1048576 0)
 
 place-in-requires : tie.Need-place-in-requires
 place-in-requires c κs =
     let s = c .before .before .before .before .before .before .before .before in
-    (s .pre .0, (s .pre .1 .0, (s .pre .1 .1 .0, (s .pre .1 .1 .1 .0, (s .pre .1 .1 .1 .1, (le-of-eq (sym (length-replicate {A = ℕ} 131072 0)), zero-at 131072, le-of-eq (sym (length-replicate {A = ℕ} 512 0))))))))
+    (s .pre .0, (s .pre .1 .0, (s .pre .1 .1 .0, (s .pre .1 .1 .1 .0, (s .pre .1 .1 .1 .1, (le-of-eq (sym (length-replicate {A = ℕ} 131072 0)), zero-at 131072, le-of-eq (sym (length-replicate {A = ℕ} 1048576 0))))))))
 
 same-length : tie.Need-same-length
-same-length c = search needs
+same-length c = c .before .before .before .before .place-in .kept .1 .1 .1 .1 .1 .1 .1 .1 .1 .0
 
 returns : tie.Need-returns
 returns c = search needs
