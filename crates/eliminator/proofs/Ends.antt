@@ -19,7 +19,7 @@ use Rattle.elimination.proofs.Survivors.{survivors-ascending, survivors-sound, 
 use Rattle.elimination.proofs.Marks.{marked-lt, marks-of, marks-number}
 use Rattle.witnesses.specs.Tables.{slotCount, slotKind, slotRole, slotChild, slotTerm, quantifierOf, Tables, tables, Ready, SlotsOf, TablesOf}
 use Rattle.witnesses.proofs.Tables.{witness-witnesses, witnesses-witness}
-use Rattle.eliminator.specs.Sweeps.{Closed, State, Settled}
+use Rattle.sweeps.specs.Sweeps.{Closed, State, Settled}
 use Rattle.eliminator.specs.Filling.{Entered}
 use Rattle.eliminator.proofs.Filling.{slot-child}
 

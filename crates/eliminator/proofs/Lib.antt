@@ -1,3 +1,2 @@
-pub mod Sweeps
 pub mod Filling
 pub mod Ends

@@ -11,90 +11,9 @@ ghost use Rattle.sections.specs.Rules.{rulesOf, RulesRight};
 ghost use Rattle.elimination.specs.Survivors.{survivors};
 ghost use Rattle.elimination.specs.Marks.{marksOf};
 ghost use Rattle.witnesses.specs.Tables.{slotCount, slotChild, slotTerm, tables, Ready, SlotsOf};
-ghost use Rattle.eliminator.specs.Sweeps.{State, Visited, Swept, Settled};
 ghost use Rattle.eliminator.specs.Filling.{Collected, written, RowObeys, Copied, Entered};
 use grades::fill_row;
-use witnesses::supported;
-
-// ---- sweeps
-
-// Looks at candidate `c`: unmarks it where it is marked and a slot of it has no marked witness. The number of marks left.
-fn visit(
-    steps: u8,
-    slots: &[u8],
-    own: &[u8],
-    child: &[u8],
-    marks: &mut [u8],
-    memory: &mut [u16],
-    c: usize,
-    left: usize,
-) -> usize
-    requires { ⌜ Ready (tables steps (length (now marks)) (now slots) (now own) (now child)) ⌝ }
-    requires { ⌜ (length (now marks) ≤ 16384) × (c < length (now marks)) × (16 * length (now marks) ≤ length (now memory)) ⌝ }
-    requires { ⌜ State (tables steps (length (now marks)) (now slots) (now own) (now child)) (now marks) (now memory) left ⌝ }
-    ensures { λ r. ⌜ State (tables steps (length (now (marks .entry))) (now (slots .entry)) (now (own .entry)) (now (child .entry))) (now (marks .exit)) (now (memory .exit)) r ⌝ }
-    ensures { λ r. ⌜ Visited (tables steps (length (now (marks .entry))) (now (slots .entry)) (now (own .entry)) (now (child .entry))) c (now (marks .entry)) (now (marks .exit)) left r ⌝ }
-{
-    if marks[c] != 1 {
-        return left;
-    }
-    if supported(steps, slots, own, child, marks, memory, c) {
-        return left;
-    }
-    marks[c] = 0;
-    left - 1
-}
-
-// Visits every candidate once. The number of marks left: where none went, every marked candidate is supported.
-fn sweep(
-    steps: u8,
-    slots: &[u8],
-    own: &[u8],
-    child: &[u8],
-    marks: &mut [u8],
-    memory: &mut [u16],
-    left: usize,
-) -> usize
-    requires { ⌜ Ready (tables steps (length (now marks)) (now slots) (now own) (now child)) ⌝ }
-    requires { ⌜ (length (now marks) ≤ 16384) × (16 * length (now marks) ≤ length (now memory)) ⌝ }
-    requires { ⌜ State (tables steps (length (now marks)) (now slots) (now own) (now child)) (now marks) (now memory) left ⌝ }
-    ensures { λ r. ⌜ State (tables steps (length (now (marks .entry))) (now (slots .entry)) (now (own .entry)) (now (child .entry))) (now (marks .exit)) (now (memory .exit)) r ⌝ }
-    ensures { λ r. ⌜ Swept (tables steps (length (now (marks .entry))) (now (slots .entry)) (now (own .entry)) (now (child .entry))) (length (now (marks .entry))) (now (marks .entry)) (now (marks .exit)) left r ⌝ }
-{
-    let count = marks.len();
-    let mut rest = left;
-    let mut c = 0;
-    while c < count {
-        rest = visit(steps, slots, own, child, marks, memory, c, rest);
-        c += 1;
-    }
-    rest
-}
-
-// Sweeps until no mark goes. The number of marks left.
-fn settle(
-    steps: u8,
-    slots: &[u8],
-    own: &[u8],
-    child: &[u8],
-    marks: &mut [u8],
-    memory: &mut [u16],
-    left: usize,
-) -> usize
-    requires { ⌜ Ready (tables steps (length (now marks)) (now slots) (now own) (now child)) ⌝ }
-    requires { ⌜ (length (now marks) ≤ 16384) × (16 * length (now marks) ≤ length (now memory)) ⌝ }
-    requires { ⌜ State (tables steps (length (now marks)) (now slots) (now own) (now child)) (now marks) (now memory) left ⌝ }
-    ensures { λ r. ⌜ Settled (tables steps (length (now (marks .entry))) (now (slots .entry)) (now (own .entry)) (now (child .entry))) (now (marks .entry)) (now (marks .exit)) r ⌝ }
-{
-    let mut rest = left;
-    loop {
-        let next = sweep(steps, slots, own, child, marks, memory, rest);
-        if next == rest {
-            return next;
-        }
-        rest = next;
-    }
-}
+use sweeps::settle;
 
 // ---- filling the tables
 

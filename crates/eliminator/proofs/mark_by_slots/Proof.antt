@@ -6,7 +6,7 @@ use borrow.Author.Needs.{needs}
 use Rattle.sections.specs.Terms.{termsOf}
 use Rattle.sections.specs.Rules.{rulesOf}
 use Rattle.sections.proofs.Terms.{terms-ordered}
-use Rattle.eliminator.proofs.Sweeps.{ready-sized, state-sized, settled-sized}
+use Rattle.sweeps.proofs.Sweeps.{ready-sized, state-sized, settled-sized}
 use Rattle.eliminator.proofs.Ends.{ready-of, state-of, settled-survivors}
 use Rattle.eliminator.proofs.mark_by_slots.Statement.{statement}
 use Rattle.eliminator.proofs.mark_by_slots.Tie as tie

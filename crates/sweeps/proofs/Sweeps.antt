@@ -13,7 +13,7 @@ use Rattle.elimination.specs.Marks.{Marked}
 use Rattle.elimination.proofs.Marks.{marked-lt, marked-set, set-marked, rank-unmarked}
 use Rattle.witnesses.specs.Tables.{Tables, tables, Ready}
 use Rattle.witnesses.specs.Search.{Witness, Remembers, Supported}
-use Rattle.eliminator.specs.Sweeps.{Reduced, State, Visited, Swept, Settled}
+use Rattle.sweeps.specs.Sweeps.{Reduced, State, Visited, Swept, Settled}
 
 module _ (T : Tables) where
   -- ---- marks taken away

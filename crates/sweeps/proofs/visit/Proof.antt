@@ -1,13 +1,13 @@
--- `eliminator::visit` meets its contract.
+-- `sweeps::visit` meets its contract.
 -- Assumes nothing.
 use mathlib.Core.Path.{_≡_}
 use native.Mathlib.Omega.{arith}
 use lib.ListN.{length, getD}
 use borrow.Author.Needs.{needs}
 use Rattle.witnesses.specs.Tables.{tables}
-use Rattle.eliminator.proofs.Sweeps.{visited-kept, state-memory, some-left, state-set, visited-set}
-use Rattle.eliminator.proofs.visit.Statement.{statement}
-use Rattle.eliminator.proofs.visit.Tie as tie
+use Rattle.sweeps.proofs.Sweeps.{visited-kept, state-memory, some-left, state-set, visited-set}
+use Rattle.sweeps.proofs.visit.Statement.{statement}
+use Rattle.sweeps.proofs.visit.Tie as tie
 
 slice-read-if1 : tie.Need-slice-read-if1
 slice-read-if1 c = search needs

@@ -1,13 +1,13 @@
--- `eliminator::settle` meets its contract. Each sweep but the last leaves fewer marks.
+-- `sweeps::settle` meets its contract. Each sweep but the last leaves fewer marks.
 -- Assumes nothing.
 use mathlib.Core.Path.{_≡_, refl, sym}
 use native.Mathlib.Omega.{arith}
 use lib.ListN.{length}
 use Rattle.witnesses.specs.Tables.{tables}
-use Rattle.eliminator.specs.Sweeps.{State, Reduced}
-use Rattle.eliminator.proofs.Sweeps.{settled, ready-sized, state-sized, swept-sized, reduced-none, reduced-then}
-use Rattle.eliminator.proofs.settle.Statement.{statement}
-use Rattle.eliminator.proofs.settle.Tie as tie
+use Rattle.sweeps.specs.Sweeps.{State, Reduced}
+use Rattle.sweeps.proofs.Sweeps.{settled, ready-sized, state-sized, swept-sized, reduced-none, reduced-then}
+use Rattle.sweeps.proofs.settle.Statement.{statement}
+use Rattle.sweeps.proofs.settle.Tie as tie
 
 abbrev Inv-loop : tie.InvT-loop
 Inv-loop steps slots own child marks₀ memory₀ left rest₀ marks memory rest =

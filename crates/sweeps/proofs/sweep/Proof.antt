@@ -1,4 +1,4 @@
--- `eliminator::sweep` meets its contract. The candidates below `c` are visited.
+-- `sweeps::sweep` meets its contract. The candidates below `c` are visited.
 -- Assumes nothing.
 use mathlib.Core.Path.{_≡_, refl, sym, subst}
 use Prim.Native.Nat.{ℕ, _-_, _≤_}
@@ -6,10 +6,10 @@ use native.Mathlib.Omega.{arith}
 use lib.ListN.{length}
 use borrow.Author.Needs.{needs}
 use Rattle.witnesses.specs.Tables.{tables}
-use Rattle.eliminator.specs.Sweeps.{State, Swept}
-use Rattle.eliminator.proofs.Sweeps.{swept-none, swept-more, ready-sized, state-sized, visited-sized}
-use Rattle.eliminator.proofs.sweep.Statement.{statement}
-use Rattle.eliminator.proofs.sweep.Tie as tie
+use Rattle.sweeps.specs.Sweeps.{State, Swept}
+use Rattle.sweeps.proofs.Sweeps.{swept-none, swept-more, ready-sized, state-sized, visited-sized}
+use Rattle.sweeps.proofs.sweep.Statement.{statement}
+use Rattle.sweeps.proofs.sweep.Tie as tie
 
 abbrev Inv-loop : tie.InvT-loop
 Inv-loop steps slots own child marks₀ memory₀ left count rest₀ c₀ marks memory rest c =
