@@ -42,7 +42,8 @@ fn grade_counted(b: &[u8], s: Sections, k: u64, c: usize, i: usize) -> Answer
     Answer::Grade(grades::grade_of(&b[terms..rules], s.steps, c, i))
 }
 
-fn grade_opened(b: &[u8], s: Sections, c: usize, i: usize) -> Answer
+// On an accepted book whose sections are `s`: check 10 is made, and none before.
+pub fn grade_in(b: &[u8], s: Sections, c: usize, i: usize) -> Answer
     requires { ⌜ Right (now b) s ⌝ }
     ensures { λ r. ⌜ r ≡ gradeAnswer (now (b .entry)) c i ⌝ }
 {
@@ -58,7 +59,7 @@ pub fn grade(b: &[u8], c: usize, i: usize) -> Answer
 {
     match book::open(b) {
         Opened::Refused(n) => Answer::Refused(n),
-        Opened::Accepted(s) => grade_opened(b, s, c, i),
+        Opened::Accepted(s) => grade_in(b, s, c, i),
     }
 }
 
@@ -83,7 +84,8 @@ fn link_counted(b: &[u8], s: Sections, k: u64, role: u8, c: usize, d: usize) -> 
     Answer::Grade(grades::link_of(&b[terms..rules], s.steps, role, c, d))
 }
 
-fn link_opened(b: &[u8], s: Sections, role: u8, c: usize, d: usize) -> Answer
+// On an accepted book whose sections are `s`: check 10 is made, and none before.
+pub fn link_in(b: &[u8], s: Sections, role: u8, c: usize, d: usize) -> Answer
     requires { ⌜ Right (now b) s ⌝ }
     ensures { λ r. ⌜ r ≡ linkAnswer (now (b .entry)) role c d ⌝ }
 {
@@ -99,7 +101,7 @@ pub fn link(b: &[u8], role: u8, c: usize, d: usize) -> Answer
 {
     match book::open(b) {
         Opened::Refused(n) => Answer::Refused(n),
-        Opened::Accepted(s) => link_opened(b, s, role, c, d),
+        Opened::Accepted(s) => link_in(b, s, role, c, d),
     }
 }
 
@@ -195,7 +197,8 @@ fn work_shaped(b: &[u8], s: Sections, sheet: &[u8], p: Shape, grid: &mut [u8]) -
     Worked::Says(work_fitting(b, s, sheet, p, &mut values, grid))
 }
 
-fn work_opened(b: &[u8], s: Sections, sheet: &[u8], grid: &mut [u8]) -> Worked
+// On an accepted book whose sections are `s`: no check of the book is made.
+pub fn work_in(b: &[u8], s: Sections, sheet: &[u8], grid: &mut [u8]) -> Worked
     requires { ⌜ Right (now b) s ⌝ }
     ensures { λ r. ⌜ r ≡ workedOf (now (b .entry)) (now (sheet .entry)) (length (now (grid .entry))) ⌝ }
     ensures { λ r. ⌜ now (grid .exit) ≡ gridAfter (now (b .entry)) (now (sheet .entry)) (now (grid .entry)) ⌝ }
@@ -221,6 +224,6 @@ pub fn work_out(b: &[u8], sheet: &[u8], grid: &mut [u8]) -> Worked
 {
     match book::open(b) {
         Opened::Refused(n) => Worked::Refused(n),
-        Opened::Accepted(s) => work_opened(b, s, sheet, grid),
+        Opened::Accepted(s) => work_in(b, s, sheet, grid),
     }
 }

@@ -18,8 +18,8 @@ enum-known-n c = search needs
 enum-known-s : tie.Need-enum-known-s
 enum-known-s c = search needs
 
-grade-opened-requires : tie.Need-grade-opened-requires
-grade-opened-requires c κs = opened-accepted _ _ (sym (c .before .before .before .«open» .ensures) ∙ c .before .s .given .1)
+grade-in-requires : tie.Need-grade-in-requires
+grade-in-requires c κs = opened-accepted _ _ (sym (c .before .before .before .«open» .ensures) ∙ c .before .s .given .1)
 
 returns : tie.Need-returns
 unfolding gradeAnswer
@@ -31,4 +31,4 @@ returns-2 c = search needs
 pub grade-spec : {M : Type 1} → statement M
 grade-spec =
     tie.close
-    (tie.spec open-requires enum-known-n enum-known-s grade-opened-requires returns returns-2)
+    (tie.spec open-requires enum-known-n enum-known-s grade-in-requires returns returns-2)

@@ -18,8 +18,8 @@ enum-known-n c = search needs
 enum-known-s : tie.Need-enum-known-s
 enum-known-s c = search needs
 
-link-opened-requires : tie.Need-link-opened-requires
-link-opened-requires c κs = opened-accepted _ _ (sym (c .before .before .before .«open» .ensures) ∙ c .before .s .given .1)
+link-in-requires : tie.Need-link-in-requires
+link-in-requires c κs = opened-accepted _ _ (sym (c .before .before .before .«open» .ensures) ∙ c .before .s .given .1)
 
 returns : tie.Need-returns
 unfolding linkAnswer
@@ -31,4 +31,4 @@ returns-2 c = search needs
 pub link-spec : {M : Type 1} → statement M
 link-spec =
     tie.close
-    (tie.spec open-requires enum-known-n enum-known-s link-opened-requires returns returns-2)
+    (tie.spec open-requires enum-known-n enum-known-s link-in-requires returns returns-2)

@@ -17,8 +17,8 @@ enum-known-n c = search needs
 enum-known-s : tie.Need-enum-known-s
 enum-known-s c = search needs
 
-work-opened-requires : tie.Need-work-opened-requires
-work-opened-requires c κs = opened-accepted _ _ (sym (c .before .before .before .before .«open» .ensures) ∙ c .before .before .s .given .1)
+work-in-requires : tie.Need-work-in-requires
+work-in-requires c κs = opened-accepted _ _ (sym (c .before .before .before .before .«open» .ensures) ∙ c .before .before .s .given .1)
 
 returns : tie.Need-returns
 returns c = let h = work-book (c .before .before .before .before .before .before .before .args .b .now) (c .before .before .before .before .before .before .before .args .sheet .now) (length (c .before .before .before .before .before .before .before .args .grid .now)) _ (sym (c .before .before .before .«open» .ensures) ∙ c .before .n .given .1) in (sym (worked-refused _ _ _ _ h), sym (grid-refused _ _ _ _ h))
@@ -36,7 +36,7 @@ work-out-spec =
     open-requires
     enum-known-n
     enum-known-s
-    work-opened-requires
+    work-in-requires
     returns
     same-length
     returns-2)

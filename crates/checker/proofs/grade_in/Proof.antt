@@ -1,4 +1,4 @@
--- `checker::grade_opened` meets its contract.
+-- `checker::grade_in` meets its contract.
 -- Assumes nothing.
 use mathlib.Core.Path.{sym, _∙_}
 use borrow.Author.Needs.{needs}
@@ -6,8 +6,8 @@ use Rattle.book.proofs.Opening.{counted-declined}
 use Rattle.book.specs.Opening.{candidateQuestions}
 use Rattle.checker.specs.Asking.{gradeAnswer}
 use Rattle.checker.proofs.Asking.{answered-before}
-use Rattle.checker.proofs.grade_opened.Statement.{statement}
-use Rattle.checker.proofs.grade_opened.Tie as tie
+use Rattle.checker.proofs.grade_in.Statement.{statement}
+use Rattle.checker.proofs.grade_in.Tie as tie
 
 count-in-requires : tie.Need-count-in-requires
 count-in-requires c κs = search needs
@@ -28,7 +28,7 @@ returns c = sym (answered-before _ (candidateQuestions (c .before .before .befor
 returns-2 : tie.Need-returns-2
 returns-2 c = search needs
 
-pub grade-opened-spec : {M : Type 1} → statement M
-grade-opened-spec =
+pub grade-in-spec : {M : Type 1} → statement M
+grade-in-spec =
     tie.close
     (tie.spec count-in-requires enum-known-n enum-known-k grade-counted-requires returns returns-2)

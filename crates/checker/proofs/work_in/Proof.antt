@@ -1,4 +1,4 @@
--- `checker::work_opened` meets its contract. The sheet is checked by the counts that the sections give.
+-- `checker::work_in` meets its contract. The sheet is checked by the counts that the sections give.
 -- Assumes nothing.
 use mathlib.Core.Path.{sym, _∙_}
 use native.Mathlib.Omega.{arith}
@@ -7,8 +7,8 @@ use borrow.Author.Needs.{needs}
 use Rattle.book.proofs.Opening.{right-ordered}
 use Rattle.sheets.proofs.Opening.{opened-right, opened-refused}
 use Rattle.checker.proofs.Working.{work-sheet, worked-refused, grid-refused, sheet-fits, sheet-asked}
-use Rattle.checker.proofs.work_opened.Statement.{statement}
-use Rattle.checker.proofs.work_opened.Tie as tie
+use Rattle.checker.proofs.work_in.Statement.{statement}
+use Rattle.checker.proofs.work_in.Tie as tie
 
 sub-count-names : tie.Need-sub-count-names
 sub-count-names c = omega (arith, right-ordered (c .before .before .before .args .b .now) (c .before .before .before .args .s) (c .before .before .before .pre))
@@ -85,8 +85,8 @@ same-length c = search needs
 returns-2 : tie.Need-returns-2
 returns-2 c = search needs
 
-pub work-opened-spec : {M : Type 1} → statement M
-work-opened-spec =
+pub work-in-spec : {M : Type 1} → statement M
+work-in-spec =
     tie.close
     (tie.spec
     sub-count-names
