@@ -1,4 +1,5 @@
--- Demand 3 of document 01, sentence by sentence, of a book's bytes: what deciding it says of the interpretations of every finite size. The answer
+-- Demand 3, sentence by sentence, of a book's bytes: what deciding it says of the interpretations of every finite size. Sentences in quotation
+-- marks are the demand's own or those of document 01, which has its words ("Words of demand 3"). The answer
 -- and the buffers are what `decisionOf`, `marksAfter` and `placementAfter` give (decider/specs/Deciding), and these are the contract of
 -- `decider::decide`. Each theorem stands under the sentence that it says, and is proved by naming a law; to read what is claimed, only the
 -- definitions in specs/ that are named here are needed.
@@ -31,7 +32,7 @@ use Rattle.checker.specs.Working.{gridSize, workedOf}
 use Rattle.checker.specs.declared.Worked.the-variants.{Says}
 use Rattle.sheets.specs.declared.Verdict.the-variants.{Meets}
 use Rattle.writer.specs.Writing.{modelBytes, writtenOf, sheetAfter}
-use Rattle.writer.specs.declared.Written.the-variants.{Sheet}
+use Rattle.writer.specs.declared.Written.the-variants.{Refused as NotWritten, Sheet}
 use Rattle.book.proofs.Opening.{accepts-right}
 use Rattle.book.proofs.Reading.{accepts-valid}
 use Rattle.decider.proofs.Deciding as Deciding
@@ -177,6 +178,11 @@ pub refusals-change-nothing : (b marks buffer : List ℕ) (n : ℕ) → decision
 refusals-change-nothing b marks buffer n e =
     let u = Deciding.refused b marks buffer n (Deciding.decision-refused b (length marks) (length buffer) n e) in
     (sym (u .1 .0), sym (u .1 .1))
+
+-- "A refusal leaves the sheet buffer untouched", and marks and placement are as deciding leaves them, whatever is answered: `writer::write_sheet`
+-- says of them what `decider::decide` says
+pub refusals-keep-the-sheet : (b : List ℕ) (m p : ℕ) (sheet : List ℕ) (n : ℕ) → writtenOf b m p (length sheet) ≡ NotWritten n → sheetAfter b m p sheet ≡ sheet
+refusals-keep-the-sheet = Written.sheet-kept
 
 -- ---- and beyond: "a sheet that was written, worked out on the same book, "meets""
 

@@ -1,21 +1,21 @@
 -- "Types and links" of document 01, sentence by sentence, on abstract books. Each theorem stands under the sentence that it says, and is proved by
 -- naming a law. What is assumed of a book is what the checks 6 to 9 establish: `Valid B`, and, for places, that no name stands in two terms.
 -- Assumes nothing.
-use mathlib.Core.Path.{_≡_}
+use mathlib.Core.Path.{_≡_, refl}
 use mathlib.Core.Logic.{_↔_}
 use mathlib.Core.Option.{none, some}
 use mathlib.Core.List.{List}
 use Prim.Native.Nat.{ℕ, _+_, _^_, _≤_, _<_}
 use lib.ListN.{length}
 use Rattle.chain.specs.Digits.{digit}
-use Rattle.semantics.specs.Terms.{term}
+use Rattle.semantics.specs.Terms.{term, local}
 use Rattle.semantics.specs.Interpretations.{Grading, WellFormed}
 use Rattle.semantics.specs.Books.{Book, Valid, individuals, RulesSatisfiable, Satisfiable}
-use Rattle.semantics.specs.Candidates.{place, IsPlace, placesBefore, NamesApart, candidates, gradeIn}
+use Rattle.semantics.specs.Candidates.{place, IsPlace, placesBefore, NamesApart, candidates, inCandidate, gradeIn}
 use Rattle.semantics.specs.Links.{Allows, link}
 use Rattle.elimination.specs.Survivors.{Sound, Survives}
 use Rattle.placement.specs.Dictionary.{Foremost, Nowhere}
-use Rattle.placement.specs.Outcome.{HoldsAt, placement, outcome, survivorsOf}
+use Rattle.placement.specs.Outcome.{seat, HoldsAt, Unmentioned, placement, outcome, survivorsOf}
 use Rattle.semantics.proofs.Candidates as Candidates
 use Rattle.semantics.proofs.Links as Links
 use Rattle.elimination.proofs.Survivors as Survivors
@@ -33,6 +33,11 @@ module _ (G : Grading) (w : WellFormed G) where
   pub places-are : NamesApart (G .terms) → (c i : ℕ) → i < length (G .terms) → IsPlace (place (term (G .terms) i))
       → gradeIn G c i ≡ digit (G .steps + 1) (placesBefore (G .terms) i) c
   places-are = Candidates.gradeIn-place G w
+
+  -- "The other terms' grades follow.": each from its children's, by the connective that the table has for its kind
+  pub others-follow : (c i : ℕ) → i < length (G .terms) → ¬ IsPlace (place (term (G .terms) i))
+      → gradeIn G c i ≡ local (inCandidate G c) i (term (G .terms) i) (gradeIn G c)
+  others-follow c i l _ = Candidates.gradeIn-local G w c i l (term (G .terms) i) refl
 
   -- "No two candidates share a type"
   pub types-differ : (c d : ℕ) → c < candidates G → d < candidates G → ((i : ℕ) → i < length (G .terms) → gradeIn G c i ≡ gradeIn G d i) → c ≡ d
@@ -60,6 +65,10 @@ module _ (B : Book) where
 
   pub no-placement-is-none : placement B ≡ none → Nowhere (survivorsOf B) (individuals B) (HoldsAt B)
   no-placement-is-none = Outcome.placement-nowhere B
+
+  -- "An individual below the highest that no claim mentions may go anywhere."
+  pub unmentioned-may-go-anywhere : (j : ℕ) → Unmentioned B j → (p q : List ℕ) → ((k : ℕ) → ¬ (k ≡ j) → seat p k ≡ seat q k) → HoldsAt B p → HoldsAt B q
+  unmentioned-may-go-anywhere j u p q = Outcome.unmentioned-same B j u (seat p) (seat q)
 
 module _ (B : Book) (w : Valid B) where
   -- "Outcomes: 1 holds together; 2 the rules have a model but none meets the claims; 3 the rules have none."

@@ -1,1 +1,1 @@
-// The demands of document 01 as theorems, in specs/: what is claimed, sentence by sentence.
+// What is claimed, as theorems, in specs/: document 01's "Types and links", its readings and its printout, and demands 2 and 3 on a book's bytes.

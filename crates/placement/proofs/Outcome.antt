@@ -12,8 +12,9 @@ use lib.ListN.{length}
 use Rattle.chain.specs.Lists.{Each, Ascending, table, index}
 use Rattle.chain.proofs.Lists.{mem-at, at-mem, each-mem, each-map₂, each-map₃, length-table, getD-table, each-table, each-highest, index-lt, at-index}
 use Rattle.semantics.specs.Interpretations.{Grading}
-use Rattle.semantics.specs.Books.{Book, membershipIndividuals, linkIndividuals, individuals, Valid, MeetsMembership, MeetsLink, RuleModel, MeetsClaims, RulesSatisfiable, Satisfiable}
-use Rattle.semantics.specs.Candidates.{typeOf}
+use Rattle.semantics.specs.Books.{Book, Claimed, membershipIndividuals, linkIndividuals, individuals, Valid, MeetsMembership, MeetsLink, RuleModel, MeetsClaims, RulesSatisfiable, Satisfiable}
+use Rattle.semantics.specs.Candidates.{gradeIn, typeOf}
+use Rattle.semantics.specs.Links.{link}
 use Rattle.semantics.proofs.Candidates.{typeOf-has}
 use Rattle.elimination.specs.Survivors.{Survives}
 use Rattle.elimination.specs.Listed.{listed, listedTypes}
@@ -21,7 +22,7 @@ use Rattle.elimination.proofs.Survivors.{survivors-ascending}
 use Rattle.elimination.proofs.Complete.{complete, link-of-types}
 use Rattle.elimination.proofs.Listed.{listed-has, listed-meets}
 use Rattle.placement.specs.Dictionary.{Drawn, Foremost, Nowhere, Finds}
-use Rattle.placement.specs.Outcome.{seat, survivorsOf, HoldsMembership, HoldsLink, HoldsAt, holds?, placementAmong, placement, outcomeOf, outcome, placedTypes}
+use Rattle.placement.specs.Outcome.{seat, survivorsOf, HoldsMembership, HoldsLink, Holds, HoldsAt, Unmentioned, holds?, placementAmong, placement, outcomeOf, outcome, placedTypes}
 use Rattle.placement.proofs.Dictionary.{seek-finds}
 
 module _ (B : Book) where
@@ -178,3 +179,11 @@ module _ (B : Book) where
         go n (inl u) = (λ e. absurd (⊎-elim (λ f. omega (arith, u .0)) (λ f. omega (arith, u .0)) e), λ m. absurd (m (u .1)))
         go n (inr (inl u)) = (λ _. u .2, λ _. inl (u .0))
         go n (inr (inr u)) = (λ _ m. u .1 (m .0, m .1), λ _. inr (u .0))
+
+-- where an individual that no claim mentions sits makes no difference
+pub unmentioned-same : (B : Book) (j : ℕ) → Unmentioned B j → (s s′ : ℕ → ℕ) → ((k : ℕ) → ¬ (k ≡ j) → s k ≡ s′ k) → Holds B s → Holds B s′
+unmentioned-same B j u s s′ same h = (
+  each-map₂ (λ q n g. subst (λ (c : ℕ). Claimed (q .sense) (q .grade) (gradeIn (B .grading) c (q .term))) (same (q .individual) n) g) (B .memberships) (u .0) (h .0),
+  each-map₂ (λ q n g. subst (λ (c : ℕ). q .grade ≤ link (B .grading) (q .role) c (s′ (q .target))) (same (q .source) (n .0))
+      (subst (λ (c : ℕ). q .grade ≤ link (B .grading) (q .role) (s (q .source)) c) (same (q .target) (n .1)) g)) (B .links) (u .1) (h .1),
+)

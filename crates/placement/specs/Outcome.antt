@@ -1,6 +1,7 @@
 -- The placement of the individuals and the outcome of a book. Document 01, "Types and links": "Outcomes: 1 holds together; 2 the rules have a
 -- model but none meets the claims; 3 the rules have none."
 -- Assumes nothing.
+use mathlib.Core.Path.{_≡_}
 use mathlib.Core.Option.{Option, none, some}
 use mathlib.Core.List.{List, [], _∷_}
 use Prim.Native.Nat.{ℕ, _≤_}
@@ -38,6 +39,10 @@ module _ (B : Book) where
   -- a placement, a candidate for each individual, meets every claim
   abbrev pub HoldsAt : List ℕ → Type 0
   HoldsAt p = Holds (seat p)
+
+  -- no claim mentions individual j
+  abbrev pub Unmentioned : ℕ → Type 0
+  Unmentioned j = Each (λ q. ¬ (q .individual ≡ j)) (B .memberships) × Each (λ q. (¬ (q .source ≡ j)) × (¬ (q .target ≡ j))) (B .links)
 
   unfoldable pub holds? : (s : ℕ → ℕ) → Dec (Holds s)
   unfolding dec-and each? claimed? decLe

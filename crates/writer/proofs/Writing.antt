@@ -190,3 +190,9 @@ pub seated-at : (b seats : List ℕ) (n : ℕ) → n ≡ individuals (bookOf b) 
     → placement (bookOf b) ≡ some (take n seats)
 unfolding Seated
 seated-at b seats n e h o = h o ∙ ap {B = Option (List ℕ)} (λ (k : ℕ). some (take k seats)) (sym e)
+
+-- a refusal leaves the sheet buffer untouched
+pub sheet-kept : (b : List ℕ) (m p : ℕ) (sheet : List ℕ) (n : ℕ) → writtenOf b m p (length sheet) ≡ Refused n → sheetAfter b m p sheet ≡ sheet
+unfolding sheetAfter
+sheet-kept b m p sheet n e =
+    ap (λ (o : Option ℕ). writtenIn (bookOf b) o sheet) (sym (writtenNumber-is b m p (length sheet)) ∙ ap writtenNumber e)
