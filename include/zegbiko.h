@@ -1,0 +1,152 @@
+/*
+ * Zegbiko: checks, decides and works out graded rule books in fuzzy ALC.
+ *
+ * The library is target/staticlib/libzegbiko.a, made by `rt staticlib zegbiko` (x86-64 Linux). It needs no other library.
+ *
+ * Every call takes a book's bytes as they come and checks them first: bad input is refused with a number, and nothing is asked
+ * of a caller but what C cannot check:
+ *   - each pointer is valid for the length given with it, and not NULL, also where the length is 0;
+ *   - a buffer that a call writes overlaps no other buffer of that call.
+ * A call keeps nothing for a later one, so calls from several threads are safe as long as no thread writes a buffer that another
+ * one uses. There is no heap: zegbiko_decide and zegbiko_write_sheet use some 1.6 MB of stack, the others a few KB.
+ *
+ * In each answer `refusal` is 0 if the call is answered, else the number of the first check that says no (below), and then
+ * every other field is 0. A refusal changes no buffer, but for 17 to 19: these come after deciding, so marks and placement are then
+ * as zegbiko_decide leaves them.
+ */
+#ifndef ZEGBIKO_H
+#define ZEGBIKO_H
+
+#include <stddef.h>
+#include <stdint.h>
+
+#ifdef __cplusplus
+extern "C" {
+#endif
+
+/* ---- Sizes in bytes; the buffers of these sizes suffice for every book */
+
+#define ZEGBIKO_BOOK_LEAST 18  /* the shortest book */
+#define ZEGBIKO_BOOK_MOST 850  /* the longest book */
+#define ZEGBIKO_MARKS 16384    /* a mark for each candidate; zegbiko_count says how many a book needs */
+#define ZEGBIKO_PLACEMENT 16   /* two bytes for each of 8 individuals; 16 are asked for with fewer too */
+#define ZEGBIKO_SHEET 33812    /* the longest sheet: 12 + 64 * 16 + 8 * 64 * 64 + 8 */
+#define ZEGBIKO_GRID 4096      /* the largest grid: 64 elements times 64 terms */
+
+/* ---- Refusal numbers, each with its question (docs/NUMBERS.md) */
+
+/* every call, in this order */
+#define ZEGBIKO_REFUSED_BOOK_LENGTH 1       /* is the book 18 to 850 bytes long? */
+#define ZEGBIKO_REFUSED_EDITION 2           /* is byte 0 equal to 1? */
+#define ZEGBIKO_REFUSED_STEPS 3             /* is N 1 to 8? */
+#define ZEGBIKO_REFUSED_COUNTS 4            /* is each of the four counts at most 64? */
+#define ZEGBIKO_REFUSED_LAYOUT 5            /* do the four offsets and the length agree with the layout? */
+#define ZEGBIKO_REFUSED_TERMS 6             /* is every term as described, and does no name stand twice? */
+#define ZEGBIKO_REFUSED_RULES 7             /* does every rule name two terms? */
+#define ZEGBIKO_REFUSED_MEMBERSHIP_CLAIMS 8 /* is every membership claim within its ranges, grade at most N? */
+#define ZEGBIKO_REFUSED_LINK_CLAIMS 9       /* is every link claim within its ranges, grade at most N? */
+/* every call but zegbiko_check and zegbiko_work_out, after 9 */
+#define ZEGBIKO_REFUSED_CANDIDATES 10       /* are there at most 16,384 candidates? */
+/* zegbiko_decide and zegbiko_write_sheet, after 10 */
+#define ZEGBIKO_REFUSED_MARKS 11            /* has the marks buffer a byte for each candidate? */
+#define ZEGBIKO_REFUSED_PLACEMENT 12        /* has the placement buffer 16 bytes? */
+/* zegbiko_work_out, after 9 */
+#define ZEGBIKO_REFUSED_SHEET_HEAD 13       /* has the sheet 12 bytes, byte 0 equal to 1, the book's N, n of 1 to 64, the book's A, R, I? */
+#define ZEGBIKO_REFUSED_SHEET_LAYOUT 14     /* do the sheet's three offsets and its length agree with the layout? */
+#define ZEGBIKO_REFUSED_SHEET_ENTRIES 15    /* is every grade at most N, and every individual's element below n? */
+#define ZEGBIKO_REFUSED_GRID 16             /* has the grid buffer n times the term count? */
+/* zegbiko_write_sheet, after 12 and deciding */
+#define ZEGBIKO_REFUSED_OUTCOME 17          /* is the outcome 1? */
+#define ZEGBIKO_REFUSED_SURVIVORS 18        /* are there at most 64 survivors? */
+#define ZEGBIKO_REFUSED_SHEET_BUFFER 19     /* is the sheet buffer long enough? */
+/* zegbiko_grade and zegbiko_link, after 10 */
+#define ZEGBIKO_REFUSED_CANDIDATE 20        /* is each candidate number below the count? */
+#define ZEGBIKO_REFUSED_TERM_OR_ROLE 21     /* is the term, or the role (0 to 7), in range? */
+
+/* ---- Outcomes of deciding */
+
+#define ZEGBIKO_HOLDS_TOGETHER 1 /* some model meets rules and claims */
+#define ZEGBIKO_CLAIMS_FAIL 2    /* the rules have a model, but none meets the claims */
+#define ZEGBIKO_NO_MODEL 3       /* the rules have no model */
+
+/* ---- Verdicts on a sheet */
+
+#define ZEGBIKO_MEETS 0             /* every rule and claim is met */
+#define ZEGBIKO_BREAKS_RULE 1       /* the first rule broken, and the lowest element at which it is */
+#define ZEGBIKO_BREAKS_MEMBERSHIP 2 /* no rule is broken; the first membership claim broken */
+#define ZEGBIKO_BREAKS_LINK 3       /* neither is; the first link claim broken */
+
+/* ---- Answers */
+
+typedef struct {
+    uint8_t refusal;
+    uint64_t candidates;
+} zegbiko_counted;
+
+typedef struct {
+    uint8_t refusal;
+    uint8_t outcome;  /* 1 to 3 */
+    size_t survivors; /* how many candidates are marked 1 */
+} zegbiko_decided;
+
+typedef struct {
+    uint8_t refusal;
+    size_t length; /* of the sheet, in bytes */
+} zegbiko_written;
+
+typedef struct {
+    uint8_t refusal;
+    uint8_t verdict; /* 0 to 3 */
+    size_t number;   /* of the rule or claim broken, from 0; 0 for "meets" */
+    size_t element;  /* the lowest element at which the rule is broken; 0 for the other verdicts */
+} zegbiko_worked;
+
+typedef struct {
+    uint8_t refusal;
+    uint8_t grade; /* 0 to N */
+} zegbiko_graded;
+
+/* ---- Calls */
+
+/* Checks a book: 0 if it is accepted, else the refusal number, 1 to 9. */
+uint8_t zegbiko_check(const uint8_t *book, size_t book_length);
+
+/* Checks a book, 1 to 10, and counts its candidates. */
+zegbiko_counted zegbiko_count(const uint8_t *book, size_t book_length);
+
+/*
+ * Decides a book, after 1 to 12: the outcome and the number of survivors.
+ * Mark byte c is set to 1 if candidate c survives, else to 0; mark bytes past the number of candidates are kept.
+ * For outcome 1 the first two placement bytes for each individual are set to the candidate at which it is placed, the high byte
+ * first; the bytes past them are kept, and for outcomes 2 and 3 all of them.
+ */
+zegbiko_decided zegbiko_decide(const uint8_t *book, size_t book_length, uint8_t *marks, size_t marks_length, uint8_t *placement,
+                               size_t placement_length);
+
+/*
+ * Decides a book as zegbiko_decide does, marks and placement likewise, and then, after 17 to 19, writes the sheet of its model: the
+ * elements are the survivors, ascending, with the individuals as placed. The sheet's length is the answer; the bytes past the
+ * sheet are kept, and on a refusal all of its buffer.
+ */
+zegbiko_written zegbiko_write_sheet(const uint8_t *book, size_t book_length, uint8_t *marks, size_t marks_length,
+                                    uint8_t *placement, size_t placement_length, uint8_t *sheet, size_t sheet_length);
+
+/*
+ * Works out a sheet on a book, after 1 to 9 and 13 to 16: whether it meets the book's rules and claims, or which is the first broken.
+ * The first n times the term count bytes of the grid are set, element by element, to the grades of all terms at the element; the
+ * bytes past them are kept.
+ */
+zegbiko_worked zegbiko_work_out(const uint8_t *book, size_t book_length, const uint8_t *sheet, size_t sheet_length, uint8_t *grid,
+                                size_t grid_length);
+
+/* The grade of a term in a candidate, after 1 to 10, 20 and 21. */
+zegbiko_graded zegbiko_grade(const uint8_t *book, size_t book_length, size_t candidate, size_t term);
+
+/* The link from one candidate to another for a role, after 1 to 10, 20 and 21. */
+zegbiko_graded zegbiko_link(const uint8_t *book, size_t book_length, uint8_t role, size_t from, size_t to);
+
+#ifdef __cplusplus
+}
+#endif
+
+#endif
