@@ -1,9 +1,9 @@
 // Measures how much stack the product's decider uses: each book is decided on a thread whose stack was painted, and afterwards the paint is
 // looked for from the far end.
 #define _GNU_SOURCE
+#include "../include/zegbiko.h"
 #include "books.h"
 #include "plain.h"
-#include "product.h"
 #include <pthread.h>
 #include <stdlib.h>
 #include <string.h>
@@ -19,8 +19,7 @@ static uint8_t *start; // where the thread's own frame ends and the call begins
 static void *call(void *unused) {
     (void)unused;
     start = __builtin_frame_address(0);
-    size_t number;
-    zegbiko_decide(book.bytes, book.length, marks, sizeof marks, placement, sizeof placement, &number);
+    zegbiko_decide(book.bytes, book.length, marks, sizeof marks, placement, sizeof placement);
     return NULL;
 }
 

@@ -1,9 +1,9 @@
 // Runs the plain decider and the product's on each book of a file, in turn, and prints the best time of each and their ratio. Any difference
 // of results, from each other or from what the file says, is an error.
 #define _POSIX_C_SOURCE 200809L
+#include "../include/zegbiko.h"
 #include "books.h"
 #include "plain.h"
-#include "product.h"
 #include <stdlib.h>
 #include <string.h>
 #include <time.h>
@@ -47,9 +47,12 @@ static double time_plain(const hard_book *b, int *candidates) {
 static double time_product(const hard_book *b) {
     clear(&product);
     double start = clock_ms();
-    product.outcome = zegbiko_decide(b->bytes, b->length, product.marks, sizeof product.marks, product.placement,
-                                     sizeof product.placement, &product.survivors);
-    return clock_ms() - start;
+    zegbiko_decided r =
+        zegbiko_decide(b->bytes, b->length, product.marks, sizeof product.marks, product.placement, sizeof product.placement);
+    double end = clock_ms();
+    product.outcome = r.outcome;
+    product.survivors = r.survivors;
+    return end - start;
 }
 
 // What is wrong with the two answers, or NULL.
