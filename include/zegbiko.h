@@ -1,14 +1,14 @@
 /*
  * Zegbiko: checks, decides and works out graded rule books in fuzzy ALC.
  *
- * The library is target/staticlib/libzegbiko.a, made by `rt staticlib zegbiko` (x86-64 Linux). It needs no other library.
+ * The library is target/staticlib/libzegbiko.a, made by `rt staticlib zegbiko` (x86-64 Linux). It calls nothing but memset.
  *
  * Every call takes a book's bytes as they come and checks them first: bad input is refused with a number, and nothing is asked
  * of a caller but what C cannot check:
  *   - each pointer is valid for the length given with it, and not NULL, also where the length is 0;
  *   - a buffer that a call writes overlaps no other buffer of that call.
  * A call keeps nothing for a later one, so calls from several threads are safe as long as no thread writes a buffer that another
- * one uses. There is no heap: zegbiko_decide and zegbiko_write_sheet use some 1.6 MB of stack, the others a few KB.
+ * one uses. There is no heap: zegbiko_decide and zegbiko_write_sheet use some 1.6 MB of stack, the others some 5 KB.
  *
  * In each answer `refusal` is 0 if the call is answered, else the number of the first check that says no (below), and then
  * every other field is 0. A refusal changes no buffer, but for 17 to 19: these come after deciding, so marks and placement are then
