@@ -30,7 +30,7 @@ use Rattle.placement.specs.Dictionary.{Finds}
 use Rattle.placement.proofs.Outcome.{placement-finds}
 use Rattle.placer.specs.Walk.{placed}
 use Rattle.placer.proofs.Walk.{placed-true, placed-false}
-use Rattle.decider.specs.Deciding.{decision, markedIn, placedIn, decideQuestions, decided, decisionOf, marksBy, marksAfter, placementBy, placementAfter, Seated, decisionNumber}
+use Rattle.decider.specs.Deciding.{decision, markedIn, placedIn, decideQuestions, decided, decisionOf, marksBy, marksAfter, placementBy, placementAfter, HoldsPlacement, decisionNumber}
 use Rattle.decider.specs.declared.Decision.the-variants.{Refused, Decided}
 
 -- ---- the first no
@@ -180,9 +180,9 @@ module _ (B : Book) where
         go [] h = absurd (omega arith)
         go (x ∷ xs) h = ap (outcomeOf B (x ∷ xs)) some-is
 
-pub seated-by : (b seats : List ℕ) (n : ℕ) → n ≡ individuals (bookOf b) → placement (bookOf b) ≡ some (take n seats) → Seated b seats
-unfolding Seated
-seated-by b seats n e h _ = h ∙ ap {B = Option (List ℕ)} (λ (k : ℕ). some (take k seats)) e
+pub holds-placement : (b seats : List ℕ) (n : ℕ) → n ≡ individuals (bookOf b) → placement (bookOf b) ≡ some (take n seats) → HoldsPlacement b seats
+unfolding HoldsPlacement
+holds-placement b seats n e h _ = h ∙ ap {B = Option (List ℕ)} (λ (k : ℕ). some (take k seats)) e
 
 -- "for outcome 1 only": without it the buffer keeps its contents
 pub kept-without-outcome-1 : (b : List ℕ) (m : ℕ) (buffer : List ℕ) → ¬ (outcome (bookOf b) ≡ 1) → placementAfter b m buffer ≡ buffer

@@ -70,8 +70,8 @@ module _ (b : List ℕ) where
   placementAfter m buffer = placementBy (firstNo (decideQuestions m (length buffer))) buffer
 
 -- the seats hold the placement, where the outcome is 1
-unfoldable pub Seated : (b seats : List ℕ) → Type 0
-Seated b seats = outcome (bookOf b) ≡ 1 → placement (bookOf b) ≡ some (take (individuals (bookOf b)) seats)
+unfoldable pub HoldsPlacement : (b seats : List ℕ) → Type 0
+HoldsPlacement b seats = outcome (bookOf b) ≡ 1 → placement (bookOf b) ≡ some (take (individuals (bookOf b)) seats)
 
 -- the document's number for each answer
 abbrev pub decisionNumber : Decision → Option ℕ

@@ -12,7 +12,7 @@ ghost use Rattle.book.specs.declared.Counted.the-variants.{Candidates};
 ghost use Rattle.elimination.specs.Marks.{marksOf, marked};
 ghost use Rattle.placement.specs.Outcome.{survivorsOf, placement as placementOf, outcome};
 ghost use Rattle.placer.specs.Walk.{placed};
-ghost use Rattle.decider.specs.Deciding.{decision, markedIn, placedIn, decisionOf, marksAfter, placementAfter, Seated};
+ghost use Rattle.decider.specs.Deciding.{decision, markedIn, placedIn, decisionOf, marksAfter, placementAfter, HoldsPlacement};
 use book::Counted;
 use book::Opened;
 use book::Sections;
@@ -124,7 +124,7 @@ fn place_individuals(
     requires { ⌜ (0 < length (survivorsOf (bookOf (now b)))) × (16 ≤ length (now placement)) × (8 ≤ length (now seats)) ⌝ }
     ensures { λ r. ⌜ r ≡ outcome (bookOf (now (b .entry))) ⌝ }
     ensures { λ _. ⌜ now (placement .exit) ≡ placedIn (placementOf (bookOf (now (b .entry)))) (now (placement .entry)) ⌝ }
-    ensures { λ _. ⌜ Seated (now (b .entry)) (now (seats .exit)) ⌝ }
+    ensures { λ _. ⌜ HoldsPlacement (now (b .entry)) (now (seats .exit)) ⌝ }
 {
     let individuals = individuals_in(b, s);
     if !seat(b, s, count, marks, individuals, seats) {
@@ -149,7 +149,7 @@ fn decide_checked(
     ensures { λ r. ⌜ r ≡ decision (bookOf (now (b .entry))) ⌝ }
     ensures { λ _. ⌜ now (marks .exit) ≡ markedIn (bookOf (now (b .entry))) (now (marks .entry)) ⌝ }
     ensures { λ _. ⌜ now (placement .exit) ≡ placedIn (placementOf (bookOf (now (b .entry)))) (now (placement .entry)) ⌝ }
-    ensures { λ _. ⌜ Seated (now (b .entry)) (now (seats .exit)) ⌝ }
+    ensures { λ _. ⌜ HoldsPlacement (now (b .entry)) (now (seats .exit)) ⌝ }
 {
     let survivors = mark(b, s, count, marks);
     if survivors == 0 {
@@ -174,7 +174,7 @@ pub fn decide_counted(
     ensures { λ r. ⌜ r ≡ decisionOf (now (b .entry)) (length (now (marks .entry))) (length (now (placement .entry))) ⌝ }
     ensures { λ _. ⌜ now (marks .exit) ≡ marksAfter (now (b .entry)) (length (now (placement .entry))) (now (marks .entry)) ⌝ }
     ensures { λ _. ⌜ now (placement .exit) ≡ placementAfter (now (b .entry)) (length (now (marks .entry))) (now (placement .entry)) ⌝ }
-    ensures { λ r. ⌜ (r ≡ decision (bookOf (now (b .entry))) → Seated (now (b .entry)) (now (seats .exit))) ⌝ }
+    ensures { λ r. ⌜ (r ≡ decision (bookOf (now (b .entry))) → HoldsPlacement (now (b .entry)) (now (seats .exit))) ⌝ }
 {
     let count = k as usize;
     if marks.len() < count {

@@ -21,7 +21,7 @@ use Rattle.placer.specs.Walk.{walk}
 use Rattle.placer.specs.Claims.{gradingOf, latest, LinkMet}
 use Rattle.placer.specs.Filter.{Allowed}
 use Rattle.placer.specs.Rows.{rowAt, RowIn}
-use Rattle.placer.specs.Seats.{May, may?, walkOf, LinkBy, Seated}
+use Rattle.placer.specs.Seats.{May, may?, walkOf, LinkBy, SeatedRows}
 use Rattle.placer.proofs.Rows.{row-has}
 use Rattle.placer.proofs.Walk.{rest, rest-start, rest-end, rest-not, rest-back, rest-found}
 
@@ -38,21 +38,21 @@ link-same N ts s t q e f h = subst (λ (x : ℕ). q .grade ≤ x) (ap₂ (λ (c 
 -- ---- the rows of those seated
 
 module _ (N : ℕ) (ts rows : List ℕ) where
-  pub seated-same : (v u : List ℕ) (k : ℕ) → take k u ≡ take k v → Seated N ts rows v k → Seated N ts rows u k
-  seated-same v u k e h j l =
+  pub seated-rows-same : (v u : List ℕ) (k : ℕ) → take k u ≡ take k v → SeatedRows N ts rows v k → SeatedRows N ts rows u k
+  seated-rows-same v u k e h j l =
       subst (λ (c : ℕ). (c < 16384) × RowIn N ts rows c)
       (sym (getD-take k v j 0 l) ∙ ap (λ (p : List ℕ). getD p j 0) (sym e) ∙ getD-take k u j 0 l) (h j l)
 
   -- the next one sits at c
-  pub seated-next : (v : List ℕ) (k c : ℕ) → k < length v → c < 16384 → RowIn N ts rows c → Seated N ts rows v k → Seated N ts rows (set v k c) (k + 1)
-  seated-next v k c in-seats small row h j l = ⊎-elim
+  pub seated-rows-next : (v : List ℕ) (k c : ℕ) → k < length v → c < 16384 → RowIn N ts rows c → SeatedRows N ts rows v k → SeatedRows N ts rows (set v k c) (k + 1)
+  seated-rows-next v k c in-seats small row h j l = ⊎-elim
       (λ e. subst (λ (x : ℕ). (x < 16384) × RowIn N ts rows x) (sym (ap (λ (x : ℕ). getD (set v k c) x 0) e ∙ getD-set-same v k c 0 in-seats)) (small, row))
       (λ z. subst (λ (x : ℕ). (x < 16384) × RowIn N ts rows x) (sym (getD-set-other v k j c 0 (λ u. omega arith))) (h j z))
       (below-cases k j (rw (← add-one k) l))
 
   -- their rows, the next one's among them, decide the link claims
   module _ (ls : List ℕ) (right : TermsRight ts) (links : LinksRight ls N) (few : termCount ts ≤ 64) (v : List ℕ) (k : ℕ)
-      (seated : Seated N ts rows v (k + 1)) where
+      (seated : SeatedRows N ts rows v (k + 1)) where
     by-rows : (i : ℕ) → i < claimCount ls → latest (linkAt ls i) ≡ k → LinkMet (gradingOf N ts) (seat v) (linkAt ls i) ↔ LinkBy N ts ls rows v k i
     by-rows i l e =
         let u = rows-link N (termsOf ts) (terms-ordered ts right) (linkAt ls i .role) (seat v (linkAt ls i .source)) (seat v (linkAt ls i .target))
@@ -96,7 +96,7 @@ module _ (N : ℕ) (ts ls table : List ℕ) (count n k : ℕ) (q : List ℕ) whe
           w ∙ rest-not (May N ts ls table) (may? N ts ls table) count (n - (k + 1)) q c h
           (λ m. a (subst (λ (j : ℕ). Allowed table j c) len (m .allowed)))
 
-      module _ (right : TermsRight ts) (links : LinksRight ls N) (few : termCount ts ≤ 64) (rows : List ℕ) (seated : Seated N ts rows (set seats k c) (k + 1)) where
+      module _ (right : TermsRight ts) (links : LinksRight ls N) (few : termCount ts ≤ 64) (rows : List ℕ) (seated : SeatedRows N ts rows (set seats k c) (k + 1)) where
         met : (i : ℕ) → i < claimCount ls → latest (linkAt ls i) ≡ k → LinkMet (gradingOf N ts) (seat (q ++ c ∷ [])) (linkAt ls i) ↔ LinkBy N ts ls rows (set seats k c) k i
         met i l e =
             let u = by-rows N ts rows ls right links few (set seats k c) k seated i l e in

@@ -53,8 +53,8 @@ LinkBy N ts ls rows seats k i =
     → RowsAllow N (termsOf ts) (linkAt ls i .role) (rowAt rows (seat seats (linkAt ls i .source))) (rowAt rows (seat seats (linkAt ls i .target))) (linkAt ls i .grade)
 
 -- the first k individuals sit at candidates whose rows are in the table
-abbrev pub Seated : (N : ℕ) (ts rows seats : List ℕ) (k : ℕ) → Type 0
-Seated N ts rows seats k = (j : ℕ) → j < k → (seat seats j < 16384) × RowIn N ts rows (seat seats j)
+abbrev pub SeatedRows : (N : ℕ) (ts rows seats : List ℕ) (k : ℕ) → Type 0
+SeatedRows N ts rows seats k = (j : ℕ) → j < k → (seat seats j < 16384) × RowIn N ts rows (seat seats j)
 
 -- ---- what stays as it is throughout: n individuals are placed at candidates below count
 

@@ -18,7 +18,7 @@ ghost use Rattle.placer.specs.Claims.{gradingOf, RowFor, Alone};
 ghost use Rattle.placer.specs.Filter.{MembershipBy, SelfBy, MembershipsBy, SelvesBy, Filtered, Column, Lacks, Vain};
 ghost use Rattle.placer.specs.Rows.{rowAt, RowIn, Rowed};
 ghost use Rattle.placer.specs.Quantified.{Collected};
-ghost use Rattle.placer.specs.Seats.{walkOf, LinkBy, Seated, Setting};
+ghost use Rattle.placer.specs.Seats.{walkOf, LinkBy, SeatedRows, Setting};
 use sections::wide;
 
 // ---- the rows of the marked candidates, 64 bytes for each
@@ -456,7 +456,7 @@ fn place_from(
 ) -> bool
     requires { ⌜ Setting steps (now terms) (now quantified) (now links) count individuals (now table) (now rows) ⌝ }
     requires { ⌜ (k ≤ individuals) × (individuals ≤ length (now seats)) ⌝ }
-    requires { ⌜ Seated steps (now terms) (now rows) (now seats) k ⌝ }
+    requires { ⌜ SeatedRows steps (now terms) (now rows) (now seats) k ⌝ }
     ensures { λ r. ⌜ take k (now (seats .exit)) ≡ take k (now (seats .entry)) ⌝ }
     ensures { λ r. ⌜ placed r (take (individuals - k) (drop k (now (seats .exit))))
         ≡ walkOf steps (now (terms .entry)) (now (links .entry)) (now (table .entry)) count (individuals - k) (take k (now (seats .entry))) ⌝ }

@@ -30,7 +30,7 @@ use Rattle.elimination.specs.Listed.{typesIn}
 use Rattle.placement.specs.Outcome.{seat, survivorsOf, placement, outcome, placedTypes}
 use Rattle.placement.proofs.Outcome.{outcome-model, placement-first}
 use Rattle.models.specs.Rows.{modelOf}
-use Rattle.decider.specs.Deciding.{decideQuestions, Seated}
+use Rattle.decider.specs.Deciding.{decideQuestions, HoldsPlacement}
 use Rattle.writer.specs.Writing.{seatsOf, modelBytes, modelQuestions, written, writtenIn, writeQuestions, writtenOf, sheetAfter, writtenNumber}
 use Rattle.writer.specs.declared.Written.the-variants.{Refused, Sheet}
 
@@ -186,10 +186,10 @@ module _ (b : List ℕ) (s : Sections) (ok : Right b s) where
       ∙ sym (model-bytes B seats f))
 
 -- the seats, where the outcome is 1
-pub seated-at : (b seats : List ℕ) (n : ℕ) → n ≡ individuals (bookOf b) → Seated b seats → outcome (bookOf b) ≡ 1
+pub placement-held : (b seats : List ℕ) (n : ℕ) → n ≡ individuals (bookOf b) → HoldsPlacement b seats → outcome (bookOf b) ≡ 1
     → placement (bookOf b) ≡ some (take n seats)
-unfolding Seated
-seated-at b seats n e h o = h o ∙ ap {B = Option (List ℕ)} (λ (k : ℕ). some (take k seats)) (sym e)
+unfolding HoldsPlacement
+placement-held b seats n e h o = h o ∙ ap {B = Option (List ℕ)} (λ (k : ℕ). some (take k seats)) (sym e)
 
 -- a refusal leaves the sheet buffer untouched
 pub sheet-kept : (b : List ℕ) (m p : ℕ) (sheet : List ℕ) (n : ℕ) → writtenOf b m p (length sheet) ≡ Refused n → sheetAfter b m p sheet ≡ sheet

@@ -13,7 +13,7 @@ ghost use Rattle.book.specs.declared.Counted.the-variants.{Candidates};
 ghost use Rattle.sheets.specs.Layout.{endAt, Indexable};
 ghost use Rattle.elimination.specs.Marks.{marked};
 ghost use Rattle.placement.specs.Outcome.{survivorsOf, outcome as outcomeOf, placement as placementOf};
-ghost use Rattle.decider.specs.Deciding.{marksAfter, placementAfter, Seated};
+ghost use Rattle.decider.specs.Deciding.{marksAfter, placementAfter, HoldsPlacement};
 ghost use Rattle.writer.specs.Writing.{modelBytes, modelQuestions, written, writtenIn, writtenOf, sheetAfter};
 use book::Counted;
 use book::Opened;
@@ -89,7 +89,7 @@ fn write_few(
 ) -> Written
     requires { ⌜ Right (now b) s ⌝ }
     requires { ⌜ (count ≤ 16384) × (count ≤ length (now marks)) × (marked (now marks) count ≡ survivorsOf (bookOf (now b))) ⌝ }
-    requires { ⌜ (8 ≤ length (now seats)) × Seated (now b) (now seats) × (outcomeOf (bookOf (now b)) ≡ 1) × (survivors ≡ length (survivorsOf (bookOf (now b)))) × (survivors ≤ 64) ⌝ }
+    requires { ⌜ (8 ≤ length (now seats)) × HoldsPlacement (now b) (now seats) × (outcomeOf (bookOf (now b)) ≡ 1) × (survivors ≡ length (survivorsOf (bookOf (now b)))) × (survivors ≤ 64) ⌝ }
     ensures { λ r. ⌜ r ≡ written (bookOf (now (b .entry))) (firstNo (modelQuestions (bookOf (now (b .entry))) (length (now (sheet .entry))))) ⌝ }
     ensures { λ _. ⌜ now (sheet .exit) ≡ writtenIn (bookOf (now (b .entry))) (firstNo (modelQuestions (bookOf (now (b .entry))) (length (now (sheet .entry))))) (now (sheet .entry)) ⌝ }
 {
@@ -115,7 +115,7 @@ fn write_decided(
 ) -> Written
     requires { ⌜ Right (now b) s ⌝ }
     requires { ⌜ (count ≤ 16384) × (count ≤ length (now marks)) × (marked (now marks) count ≡ survivorsOf (bookOf (now b))) ⌝ }
-    requires { ⌜ (8 ≤ length (now seats)) × Seated (now b) (now seats) × (outcome ≡ outcomeOf (bookOf (now b))) × (survivors ≡ length (survivorsOf (bookOf (now b)))) ⌝ }
+    requires { ⌜ (8 ≤ length (now seats)) × HoldsPlacement (now b) (now seats) × (outcome ≡ outcomeOf (bookOf (now b))) × (survivors ≡ length (survivorsOf (bookOf (now b)))) ⌝ }
     ensures { λ r. ⌜ r ≡ written (bookOf (now (b .entry))) (firstNo (modelQuestions (bookOf (now (b .entry))) (length (now (sheet .entry))))) ⌝ }
     ensures { λ _. ⌜ now (sheet .exit) ≡ writtenIn (bookOf (now (b .entry))) (firstNo (modelQuestions (bookOf (now (b .entry))) (length (now (sheet .entry))))) (now (sheet .entry)) ⌝ }
 {

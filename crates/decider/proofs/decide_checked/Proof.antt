@@ -7,7 +7,7 @@ use native.Mathlib.Omega.{arith}
 use borrow.Author.Needs.{needs}
 use Rattle.book.specs.Reading.{bookOf}
 use Rattle.elimination.specs.Marks.{marked}
-use Rattle.decider.specs.Deciding.{Seated}
+use Rattle.decider.specs.Deciding.{HoldsPlacement}
 use Rattle.decider.specs.declared.Decision.the-variants.{Decided}
 use Rattle.decider.proofs.Deciding.{marked-in, outcome-3, outcome-3-is, outcome-3-kept}
 use Rattle.decider.proofs.decide_checked.Reads as reads
@@ -24,7 +24,7 @@ same-length : tie.Need-same-length
 same-length c = search needs
 
 returns : tie.Need-returns
-unfolding Seated
+unfolding HoldsPlacement
 returns c =
     let s = c .before .before .before .before .before .before .before .before .before in
     let e = sym (c .before .before .before .mark .ensures .0) ∙ c .if1 .taken in

@@ -10,8 +10,8 @@ use lib.Seq.{length-take-le}
 use borrow.Author.Tests.{not-true, not-false}
 use borrow.Author.Needs.{needs}
 use Rattle.book.specs.Reading.{bookOf}
-use Rattle.decider.specs.Deciding.{placedIn, Seated}
-use Rattle.decider.proofs.Deciding.{outcome-1, outcome-2, seated-by}
+use Rattle.decider.specs.Deciding.{placedIn, HoldsPlacement}
+use Rattle.decider.proofs.Deciding.{outcome-1, outcome-2, holds-placement}
 use Rattle.decider.proofs.place_individuals.Reads as reads
 use Rattle.decider.proofs.place_individuals.Lts as lts
 use Rattle.decider.proofs.individuals_in.Reads as individuals-in-reads
@@ -32,7 +32,7 @@ same-length : tie.Need-same-length
 same-length c = search needs
 
 returns : tie.Need-returns
-unfolding Seated
+unfolding HoldsPlacement
 returns c =
     let s = c .before .before .before .before .before .before .before .before .before .before in
     let o = outcome-2 (bookOf (s .args .b .now)) (s .pre .1 .1 .0) (c .before .before .before .seat .result) (take (c .before .before .before .before .before .individuals-in .result) (c .before .before .before .seat .last .1 .1 .1 .1 .1 .0)) (c .before .before .before .seat .ensures) (not-true _ (c .if1 .taken)) in
@@ -59,7 +59,7 @@ returns-2 : tie.Need-returns-2
 returns-2 c =
     let s = c .before .before .before .before .before .before .before .before .before .before .before .before .before .before .before in
     let o = outcome-1 (bookOf (s .args .b .now)) (s .pre .1 .1 .0) (c .before .before .before .before .before .before .before .before .seat .result) (take (c .before .before .before .before .before .before .before .before .before .before .individuals-in .result) (c .before .before .before .before .before .before .before .before .seat .last .1 .1 .1 .1 .1 .0)) (c .before .before .before .before .before .before .before .before .seat .ensures) (not-false _ (c .before .before .before .before .before .if1 .left)) in
-    (o .0, (c .before .before .write-placement .ensures ∙ ap (λ (p : Option (List ℕ)). placedIn p (s .args .placement .now)) (sym (o .1)), seated-by (s .args .b .now) (c .before .before .before .before .before .before .before .before .seat .last .1 .1 .1 .1 .1 .0) (c .before .before .before .before .before .before .before .before .before .before .individuals-in .result) (c .before .before .before .before .before .before .before .before .before .before .individuals-in .ensures .0) (o .1)))
+    (o .0, (c .before .before .write-placement .ensures ∙ ap (λ (p : Option (List ℕ)). placedIn p (s .args .placement .now)) (sym (o .1)), holds-placement (s .args .b .now) (c .before .before .before .before .before .before .before .before .seat .last .1 .1 .1 .1 .1 .0) (c .before .before .before .before .before .before .before .before .before .before .individuals-in .result) (c .before .before .before .before .before .before .before .before .before .before .individuals-in .ensures .0) (o .1)))
 
 pub place-individuals-spec : {M : Type 1} → statement M
 place-individuals-spec =

@@ -9,9 +9,9 @@ use borrow.Author.Needs.{needs}
 use lib.ListN.{length, take, drop, set, length-set}
 use lib.Seq.{take-set-le}
 use Rattle.chain.proofs.Decisions.{told-yes, told-no}
-use Rattle.placer.specs.Seats.{walkOf, Seated}
+use Rattle.placer.specs.Seats.{walkOf, SeatedRows}
 use Rattle.placer.proofs.Walk.{placed-true, placed-false}
-use Rattle.placer.proofs.Seats.{seated-same, seated-next, restOf, no-one-left, loop-start, loop-end, turn-disallowed, turn-unlinked, turn-back, turn-found, seats-kept}
+use Rattle.placer.proofs.Seats.{seated-rows-same, seated-rows-next, restOf, no-one-left, loop-start, loop-end, turn-disallowed, turn-unlinked, turn-back, turn-found, seats-kept}
 use borrow.Fn.Kinds.{In}
 use borrow.Fn.PlainCycle.{Measures, is, falls, and}
 use Rattle.placer.proofs.place_from.Reads as place-from
@@ -171,9 +171,9 @@ place-from-links-met-requires t c κs =
     let l = c .before .before .before .before .loop in
     let w = s .pre .1 .0 in
     let v = set (l .seats) (a .k) (l .next) in
-    let seated : Seated (a .steps) (a .terms .now) (a .rows .now) v (a .k + 1) =
-    seated-next (a .steps) (a .terms .now) (a .rows .now) (l .seats) (a .k) (l .next) (omega (arith, l .inv .0, l .inv .2, s .pre .1 .1 .0)) (omega (arith, c .before .before .before .loop-test .taken, w .candidates-few)) (w .allowed-rows (a .k) (l .next) (l .inv .2) (c .before .before .before .loop-test .taken) (c .before .if2 .left))
-    (seated-same (a .steps) (a .terms .now) (a .rows .now) (a .seats .now) (l .seats) (a .k) (l .inv .1) (s .pre .1 .1 .1)) in
+    let seated : SeatedRows (a .steps) (a .terms .now) (a .rows .now) v (a .k + 1) =
+    seated-rows-next (a .steps) (a .terms .now) (a .rows .now) (l .seats) (a .k) (l .next) (omega (arith, l .inv .0, l .inv .2, s .pre .1 .1 .0)) (omega (arith, c .before .before .before .loop-test .taken, w .candidates-few)) (w .allowed-rows (a .k) (l .next) (l .inv .2) (c .before .before .before .loop-test .taken) (c .before .if2 .left))
+    (seated-rows-same (a .steps) (a .terms .now) (a .rows .now) (a .seats .now) (l .seats) (a .k) (l .inv .1) (s .pre .1 .1 .1)) in
     (w .terms-right, (w .collected, (w .links-right, ((w .terms-few, w .rows-long), (omega (arith, length-set (l .seats) (a .k) (l .next), l .inv .0, l .inv .2, s .pre .1 .1 .0), λ j h. seated j (omega arith) .0)))))
 
 place-from-loop-less-2 : (t : ℕ) → place-from-lts.Need-loop-less-2 (
@@ -197,9 +197,9 @@ place-from-loop-again-2 t c =
     let l = c .before .before .before .before .before .before .loop in
     let w = s .pre .1 .0 in
     let v = set (l .seats) (a .k) (l .next) in
-    let seated : Seated (a .steps) (a .terms .now) (a .rows .now) v (a .k + 1) =
-    seated-next (a .steps) (a .terms .now) (a .rows .now) (l .seats) (a .k) (l .next) (omega (arith, l .inv .0, l .inv .2, s .pre .1 .1 .0)) (omega (arith, c .before .before .before .before .before .loop-test .taken, w .candidates-few)) (w .allowed-rows (a .k) (l .next) (l .inv .2) (c .before .before .before .before .before .loop-test .taken) (c .before .before .before .if2 .left))
-    (seated-same (a .steps) (a .terms .now) (a .rows .now) (a .seats .now) (l .seats) (a .k) (l .inv .1) (s .pre .1 .1 .1)) in
+    let seated : SeatedRows (a .steps) (a .terms .now) (a .rows .now) v (a .k + 1) =
+    seated-rows-next (a .steps) (a .terms .now) (a .rows .now) (l .seats) (a .k) (l .next) (omega (arith, l .inv .0, l .inv .2, s .pre .1 .1 .0)) (omega (arith, c .before .before .before .before .before .loop-test .taken, w .candidates-few)) (w .allowed-rows (a .k) (l .next) (l .inv .2) (c .before .before .before .before .before .loop-test .taken) (c .before .before .before .if2 .left))
+    (seated-rows-same (a .steps) (a .terms .now) (a .rows .now) (a .seats .now) (l .seats) (a .k) (l .inv .1) (s .pre .1 .1 .1)) in
     (length-set (l .seats) (a .k) (l .next) ∙ l .inv .0, take-set-le (a .k) (l .seats) (a .k) (l .next) (omega arith) ∙ l .inv .1, l .inv .2, turn-unlinked (a .steps) (a .terms .now) (a .links .now) (a .table .now) (a .count) (a .individuals) (a .k) q (walkOf (a .steps) (a .terms .now) (a .links .now) (a .table .now) (a .count) (a .individuals - a .k) q) (l .next) (l .inv .3) (c .before .before .before .before .before .loop-test .taken) (l .seats) (omega (arith, l .inv .0, l .inv .2, s .pre .1 .1 .0)) (l .inv .1) (w .terms-right) (w .links-right) (w .terms-few) (a .rows .now) seated (told-no _ (c .before .links-met .ensures) (c .if3 .taken)))
 
 place-from-add-place-from : (t : ℕ) → place-from-lts.Need-add-place-from (
@@ -223,9 +223,9 @@ place-from-place-from-requires t c κs =
     let l = c .before .before .before .before .before .before .before .loop in
     let w = s .pre .1 .0 in
     let v = set (l .seats) (a .k) (l .next) in
-    let seated : Seated (a .steps) (a .terms .now) (a .rows .now) v (a .k + 1) =
-    seated-next (a .steps) (a .terms .now) (a .rows .now) (l .seats) (a .k) (l .next) (omega (arith, l .inv .0, l .inv .2, s .pre .1 .1 .0)) (omega (arith, c .before .before .before .before .before .before .loop-test .taken, w .candidates-few)) (w .allowed-rows (a .k) (l .next) (l .inv .2) (c .before .before .before .before .before .before .loop-test .taken) (c .before .before .before .before .if2 .left))
-    (seated-same (a .steps) (a .terms .now) (a .rows .now) (a .seats .now) (l .seats) (a .k) (l .inv .1) (s .pre .1 .1 .1)) in
+    let seated : SeatedRows (a .steps) (a .terms .now) (a .rows .now) v (a .k + 1) =
+    seated-rows-next (a .steps) (a .terms .now) (a .rows .now) (l .seats) (a .k) (l .next) (omega (arith, l .inv .0, l .inv .2, s .pre .1 .1 .0)) (omega (arith, c .before .before .before .before .before .before .loop-test .taken, w .candidates-few)) (w .allowed-rows (a .k) (l .next) (l .inv .2) (c .before .before .before .before .before .before .loop-test .taken) (c .before .before .before .before .if2 .left))
+    (seated-rows-same (a .steps) (a .terms .now) (a .rows .now) (a .seats .now) (l .seats) (a .k) (l .inv .1) (s .pre .1 .1 .1)) in
     (omega (arith, s .pre .0, l .inv .2), (w, ((omega (arith, l .inv .2), omega (arith, length-set (l .seats) (a .k) (l .next), l .inv .0, s .pre .1 .1 .0)), seated)))
 
 place-from-same-length : (t : ℕ) → place-from-lts.Need-same-length (
@@ -255,9 +255,9 @@ place-from-returns-2 t c =
     let l = c .before .before .before .before .before .before .before .before .before .before .before .loop in
     let w = s .pre .1 .0 in
     let v = set (l .seats) (a .k) (l .next) in
-    let seated : Seated (a .steps) (a .terms .now) (a .rows .now) v (a .k + 1) =
-    seated-next (a .steps) (a .terms .now) (a .rows .now) (l .seats) (a .k) (l .next) (omega (arith, l .inv .0, l .inv .2, s .pre .1 .1 .0)) (omega (arith, c .before .before .before .before .before .before .before .before .before .before .loop-test .taken, w .candidates-few)) (w .allowed-rows (a .k) (l .next) (l .inv .2) (c .before .before .before .before .before .before .before .before .before .before .loop-test .taken) (c .before .before .before .before .before .before .before .before .if2 .left))
-    (seated-same (a .steps) (a .terms .now) (a .rows .now) (a .seats .now) (l .seats) (a .k) (l .inv .1) (s .pre .1 .1 .1)) in
+    let seated : SeatedRows (a .steps) (a .terms .now) (a .rows .now) v (a .k + 1) =
+    seated-rows-next (a .steps) (a .terms .now) (a .rows .now) (l .seats) (a .k) (l .next) (omega (arith, l .inv .0, l .inv .2, s .pre .1 .1 .0)) (omega (arith, c .before .before .before .before .before .before .before .before .before .before .loop-test .taken, w .candidates-few)) (w .allowed-rows (a .k) (l .next) (l .inv .2) (c .before .before .before .before .before .before .before .before .before .before .loop-test .taken) (c .before .before .before .before .before .before .before .before .if2 .left))
+    (seated-rows-same (a .steps) (a .terms .now) (a .rows .now) (a .seats .now) (l .seats) (a .k) (l .inv .1) (s .pre .1 .1 .1)) in
     let p = c .before .before .before .place-from in
     let u = p .last .1 .1 .1 .1 .1 .1 .1 .1 .0 in
     (seats-kept (l .seats) u (a .k) (l .next) (p .ensures .0) ∙ l .inv .1, placed-true true (take (a .individuals - a .k) (drop (a .k) u)) refl ∙ turn-found (a .steps) (a .terms .now) (a .links .now) (a .table .now) (a .count) (a .individuals) (a .k) q (walkOf (a .steps) (a .terms .now) (a .links .now) (a .table .now) (a .count) (a .individuals - a .k) q) (l .next) (l .inv .3) (c .before .before .before .before .before .before .before .before .before .before .loop-test .taken) (l .seats) (omega (arith, l .inv .0, l .inv .2, s .pre .1 .1 .0)) (l .inv .1) (w .terms-right) (w .links-right) (w .terms-few) (a .rows .now) seated (c .before .before .before .before .before .before .before .before .if2 .left) (told-yes _ (c .before .before .before .before .before .before .links-met .ensures) (c .before .before .before .before .before .if3 .left)) u (p .kept .1 .1 .1 .1 .1 .1 .1 .1 .0 ∙ length-set (l .seats) (a .k) (l .next)) (p .ensures .0) (l .inv .2) (sym (placed-true (p .result) _ (c .if4 .taken)) ∙ p .ensures .1))
@@ -283,9 +283,9 @@ place-from-loop-again-3 t c =
     let l = c .before .before .before .before .before .before .before .before .before .before .before .loop in
     let w = s .pre .1 .0 in
     let v = set (l .seats) (a .k) (l .next) in
-    let seated : Seated (a .steps) (a .terms .now) (a .rows .now) v (a .k + 1) =
-    seated-next (a .steps) (a .terms .now) (a .rows .now) (l .seats) (a .k) (l .next) (omega (arith, l .inv .0, l .inv .2, s .pre .1 .1 .0)) (omega (arith, c .before .before .before .before .before .before .before .before .before .before .loop-test .taken, w .candidates-few)) (w .allowed-rows (a .k) (l .next) (l .inv .2) (c .before .before .before .before .before .before .before .before .before .before .loop-test .taken) (c .before .before .before .before .before .before .before .before .if2 .left))
-    (seated-same (a .steps) (a .terms .now) (a .rows .now) (a .seats .now) (l .seats) (a .k) (l .inv .1) (s .pre .1 .1 .1)) in
+    let seated : SeatedRows (a .steps) (a .terms .now) (a .rows .now) v (a .k + 1) =
+    seated-rows-next (a .steps) (a .terms .now) (a .rows .now) (l .seats) (a .k) (l .next) (omega (arith, l .inv .0, l .inv .2, s .pre .1 .1 .0)) (omega (arith, c .before .before .before .before .before .before .before .before .before .before .loop-test .taken, w .candidates-few)) (w .allowed-rows (a .k) (l .next) (l .inv .2) (c .before .before .before .before .before .before .before .before .before .before .loop-test .taken) (c .before .before .before .before .before .before .before .before .if2 .left))
+    (seated-rows-same (a .steps) (a .terms .now) (a .rows .now) (a .seats .now) (l .seats) (a .k) (l .inv .1) (s .pre .1 .1 .1)) in
     let p = c .before .before .before .place-from in
     let u = p .last .1 .1 .1 .1 .1 .1 .1 .1 .0 in
     (p .kept .1 .1 .1 .1 .1 .1 .1 .1 .0 ∙ length-set (l .seats) (a .k) (l .next) ∙ l .inv .0, seats-kept (l .seats) u (a .k) (l .next) (p .ensures .0) ∙ l .inv .1, l .inv .2, turn-back (a .steps) (a .terms .now) (a .links .now) (a .table .now) (a .count) (a .individuals) (a .k) q (walkOf (a .steps) (a .terms .now) (a .links .now) (a .table .now) (a .count) (a .individuals - a .k) q) (l .next) (l .inv .3) (c .before .before .before .before .before .before .before .before .before .before .loop-test .taken) (l .seats) (omega (arith, l .inv .0, l .inv .2, s .pre .1 .1 .0)) (l .inv .1) (w .terms-right) (w .links-right) (w .terms-few) (a .rows .now) seated (c .before .before .before .before .before .before .before .before .if2 .left) (told-yes _ (c .before .before .before .before .before .before .links-met .ensures) (c .before .before .before .before .before .if3 .left)) (sym (placed-false (p .result) _ (c .if4 .left)) ∙ p .ensures .1))

@@ -10,7 +10,7 @@ use Rattle.book.specs.Reading.{bookOf}
 use Rattle.sheets.proofs.end_at.Reads as end-at-reads
 use Rattle.writer.specs.declared.Written.the-variants.{Sheet}
 use Rattle.writer.specs.Writing.{modelBytes}
-use Rattle.writer.proofs.Writing.{model-19, model-none, model-refused, model-written, end-model, shape-few, seated-at}
+use Rattle.writer.proofs.Writing.{model-19, model-none, model-refused, model-written, end-model, shape-few, placement-held}
 use Rattle.writer.proofs.write_few.Reads as reads
 use Rattle.writer.proofs.write_few.Lts as lts
 use Rattle.writer.proofs.shape_in.Reads as shape-in-reads
@@ -34,7 +34,7 @@ returns c =
 write-marked-requires : tie.Need-write-marked-requires
 write-marked-requires c κs =
     let s = c .before .before .before .before .before .before .before .before in
-    (s .pre .0, ((c .before .before .before .shape-in .ensures .0 ∙ s .pre .1 .1 .3, c .before .before .before .shape-in .ensures .1, c .before .before .before .shape-in .ensures .2, c .before .before .before .shape-in .ensures .3), (s .pre .1 .0, (omega (arith, c .before .before .before .shape-in .ensures .0, s .pre .1 .1 .4), s .pre .1 .1 .0, seated-at (s .args .b .now) (s .args .seats .now) ((c .before .before .before .shape-in .result) .individuals) (c .before .before .before .shape-in .ensures .3) (s .pre .1 .1 .1) (s .pre .1 .1 .2), omega (arith, c .before .if1 .left, c .before .before .end-at .ensures)))))
+    (s .pre .0, ((c .before .before .before .shape-in .ensures .0 ∙ s .pre .1 .1 .3, c .before .before .before .shape-in .ensures .1, c .before .before .before .shape-in .ensures .2, c .before .before .before .shape-in .ensures .3), (s .pre .1 .0, (omega (arith, c .before .before .before .shape-in .ensures .0, s .pre .1 .1 .4), s .pre .1 .1 .0, placement-held (s .args .b .now) (s .args .seats .now) ((c .before .before .before .shape-in .result) .individuals) (c .before .before .before .shape-in .ensures .3) (s .pre .1 .1 .1) (s .pre .1 .1 .2), omega (arith, c .before .if1 .left, c .before .before .end-at .ensures)))))
 
 same-length : tie.Need-same-length
 same-length c = search needs
