@@ -1,10 +1,10 @@
 -- Laws of the filter: a candidate's row decides the claims that mention one individual alone, and how the table fills.
 -- Assumes nothing.
-use mathlib.Core.Path.{_≡_, refl, sym, ap, subst, _∙_}
+use mathlib.Core.Path.{_≡_, refl, sym, subst, _∙_}
 use mathlib.Core.Bool.{Bool}
 use mathlib.Core.Logic.{_↔_, ⊎-elim}
 use mathlib.Core.List.{List}
-use Prim.Native.Nat.{ℕ, zero, suc, _+_, _*_, _<_}
+use Prim.Native.Nat.{ℕ, _+_, _*_, _<_}
 use native.Mathlib.Numerals.{add-one}
 use native.Mathlib.Decide.{ℕ-discrete}
 use native.Mathlib.Omega.{arith}
@@ -13,9 +13,9 @@ use lib.Seq.{getD-set-same, getD-set-other}
 use Rattle.chain.specs.Decisions.{Tells}
 use Rattle.chain.proofs.Decisions.{tells-map}
 use Rattle.chain.proofs.Search.{below-cases}
-use Rattle.semantics.specs.Books.{at-least, at-most, Claimed}
+use Rattle.semantics.specs.Books.{Claimed}
 use Rattle.sections.specs.Terms.{termCount, termsOf, TermsRight}
-use Rattle.sections.specs.Claims.{senseOf, membershipAt, linkAt, MembershipsRight, LinksRight}
+use Rattle.sections.specs.Claims.{membershipAt, linkAt, MembershipsRight, LinksRight}
 use Rattle.sections.proofs.Terms.{length-terms, terms-ordered}
 use Rattle.grades.proofs.Rows.{HasGrades, rows-link}
 use Rattle.elimination.specs.Marks.{Marked}
@@ -23,14 +23,6 @@ use Rattle.placer.specs.Claims.{gradingOf, RowFor, Alone}
 use Rattle.placer.specs.Filter.{MembershipBy, MembershipsBy, SelvesBy, Allowed, Filtered, Column}
 
 -- ---- one claim
-
-pub sense-least : (k : ℕ) → k ≡ 0 → senseOf k ≡ at-least
-sense-least k e = ap senseOf e
-
-pub sense-most : (k : ℕ) → ¬ (k ≡ 0) → senseOf k ≡ at-most
-sense-most zero n = absurd (n refl)
-sense-most (suc zero) n = refl
-sense-most (suc (suc k)) n = refl
 
 -- a claim about individual j, by the numbers that code reads for its individual and its term
 pub membership-told : (r : Bool) (ms : List ℕ) (j : ℕ) (row : List ℕ) (i who term : ℕ) → who ≡ membershipAt ms i .individual → who ≡ j → term ≡ membershipAt ms i .term

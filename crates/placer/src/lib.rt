@@ -5,10 +5,9 @@ ghost use mathlib.Core.Logic.{_↔_};
 ghost use Prim.Native.Nat.{ℕ, _+_, _-_, _*_, _<_, _≤_};
 ghost use lib.ListN.{length, getD, take, drop};
 ghost use Rattle.chain.specs.Decisions.{Tells};
-ghost use Rattle.semantics.specs.Books.{Claimed};
 ghost use Rattle.semantics.specs.Books.{individuals as individualsOf};
 ghost use Rattle.sections.specs.Terms.{termCount, termsOf, TermsRight};
-ghost use Rattle.sections.specs.Claims.{claimCount, senseOf, membershipAt, MembershipsRight, LinksRight};
+ghost use Rattle.sections.specs.Claims.{claimCount, membershipAt, MembershipsRight, LinksRight};
 ghost use Rattle.sections.specs.Books.{bookOfSections};
 ghost use Rattle.grades.specs.Rows.{RowsAllow};
 ghost use Rattle.elimination.specs.Marks.{marked};
@@ -19,6 +18,7 @@ ghost use Rattle.placer.specs.Filter.{MembershipBy, SelfBy, MembershipsB
 ghost use Rattle.placer.specs.Rows.{rowAt, RowIn, Rowed};
 ghost use Rattle.placer.specs.Quantified.{Collected};
 ghost use Rattle.placer.specs.Seats.{walkOf, LinkBy, SeatedRows, Setting};
+use sections::claimed;
 use sections::wide;
 
 // ---- the rows of the marked candidates, 64 bytes for each
@@ -53,16 +53,6 @@ fn fill_rows(terms: &[u8], steps: u8, marks: &[u8], count: usize, rows: &mut [u8
 }
 
 // ---- the claims that mention one individual alone, by the row of a candidate
-
-// Is the grade at least, or at most, the one claimed?
-fn claimed(sense: u8, grade: u8, actual: u8) -> bool
-    ensures { λ r. ⌜ Tells r (Claimed (senseOf sense) grade actual) ⌝ }
-{
-    if sense == 0 {
-        return grade <= actual;
-    }
-    actual <= grade
-}
 
 // Does the row meet membership claim `i`, if this is about individual `j`?
 fn membership_met(memberships: &[u8], i: usize, j: usize, row: &[u8]) -> bool

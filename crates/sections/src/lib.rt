@@ -2,10 +2,11 @@
 ghost use mathlib.Core.Path.{_≡_};
 ghost use Prim.Native.Nat.{ℕ, _<_};
 ghost use Rattle.chain.specs.Decisions.{Tells};
+ghost use Rattle.semantics.specs.Books.{Claimed};
 ghost use Rattle.semantics.specs.Candidates.{place, IsPlace};
 ghost use Rattle.sections.specs.Terms.{termCount, termAt, Described, SameName, TermRight, TermsRight};
 ghost use Rattle.sections.specs.Rules.{ruleCount, RuleRight, RulesRight};
-ghost use Rattle.sections.specs.Claims.{claimCount, MembershipRight, MembershipsRight, LinkRight, LinksRight};
+ghost use Rattle.sections.specs.Claims.{senseOf, claimCount, MembershipRight, MembershipsRight, LinkRight, LinksRight};
 // A byte as a number to count and index with.
 pub fn wide(x: u8) -> usize
     ensures { λ r. ⌜ (r ≡ x) × (r < 256) ⌝ }
@@ -222,4 +223,14 @@ pub fn links_right(s: &[u8], steps: u8) -> bool
         i += 1;
     }
     true
+}
+
+// Is the grade at least, or at most, the one claimed?
+pub fn claimed(sense: u8, grade: u8, actual: u8) -> bool
+    ensures { λ r. ⌜ Tells r (Claimed (senseOf sense) grade actual) ⌝ }
+{
+    if sense == 0 {
+        return grade <= actual;
+    }
+    actual <= grade
 }

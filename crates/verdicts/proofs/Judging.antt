@@ -1,16 +1,16 @@
 -- Laws for the functions: where a link stands; one rule or claim judged by numbers that are read from the cells; the first that is broken of a
 -- section's records.
 -- Assumes nothing.
-use mathlib.Core.Path.{_≡_, refl, sym, ap, ap₂, subst, _∙_}
+use mathlib.Core.Path.{_≡_, sym, ap, ap₂, subst, _∙_}
 use mathlib.Core.List.{List}
-use Prim.Native.Nat.{ℕ, zero, suc, _+_, _*_, _≤_, _<_}
+use Prim.Native.Nat.{ℕ, _+_, _*_, _≤_, _<_}
 use native.Mathlib.Nat.{mul-comm, mul-assoc, mul-add, mul-one, mul-le-mul, mul-le-mul-left}
 use native.Mathlib.Decide.{decLe}
 use native.Mathlib.Omega.{arith}
 use Rattle.semantics.specs.Interpretations.{Interpretation}
-use Rattle.semantics.specs.Books.{Rule, at-least, at-most, Claimed, claimed?, MembershipClaim, LinkClaim}
+use Rattle.semantics.specs.Books.{Rule, Claimed, claimed?, MembershipClaim, LinkClaim}
 use Rattle.sections.specs.Rules.{ruleCount, ruleAt, rulesOf}
-use Rattle.sections.specs.Claims.{claimCount, senseOf, membershipAt, membershipsOf, linkAt, linksOf}
+use Rattle.sections.specs.Claims.{claimCount, membershipAt, membershipsOf, linkAt, linksOf}
 use Rattle.sheets.specs.Working.{judge, firstBroken, ruleVerdictAt, ruleVerdict, membershipVerdict, linkVerdict, rulesVerdict, membershipsVerdict, linksVerdict}
 use Rattle.sheets.specs.declared.Verdict.{Verdict}
 use Rattle.sheets.specs.declared.Verdict.the-variants.{Meets, BreaksRule, BreaksMembership, BreaksLink}
@@ -38,14 +38,6 @@ module _ (n r e f m k : ℕ) (h : (n ≤ 64) × (e < n) × (f < n) × ((r + 1) *
       (a, mul-le-mul {n₁ = n} {m₁ = n * k + e} {n₂ = 64} {m₂ = 16448} (h .0) (omega arith))
 
 -- ---- one rule or claim
-
-pub sense-least : (k : ℕ) → k ≡ 0 → senseOf k ≡ at-least
-sense-least k e = ap senseOf e
-
-pub sense-most : (k : ℕ) → ¬ (k ≡ 0) → senseOf k ≡ at-most
-sense-most zero n = absurd (n refl)
-sense-most (suc zero) n = refl
-sense-most (suc (suc k)) n = refl
 
 -- a fact about y, found by the number x that equals it
 module _ {P : ℕ → Type 0} (p : (x : ℕ) → Dec (P x)) (v : Verdict) {x y : ℕ} (e : x ≡ y) where

@@ -3,13 +3,13 @@ ghost use mathlib.Core.Path.{_≡_};
 ghost use Prim.Native.Nat.{_+_, _*_, _<_, _≤_};
 ghost use lib.ListN.{length};
 ghost use Rattle.chain.specs.Decisions.{Tells};
-ghost use Rattle.semantics.specs.Books.{Claimed};
 ghost use Rattle.sections.specs.Rules.{ruleCount, ruleAt, rulesOf, RuleRight, RulesRight};
-ghost use Rattle.sections.specs.Claims.{claimCount, senseOf, membershipAt, membershipsOf, linkAt, linksOf};
+ghost use Rattle.sections.specs.Claims.{claimCount, membershipAt, membershipsOf, linkAt, linksOf};
 ghost use Rattle.sheets.specs.declared.Verdict.the-variants.{Meets};
 ghost use Rattle.sheets.specs.Working.{orElse, ruleVerdict, membershipVerdict, linkVerdict, rulesVerdict, membershipsVerdict, linksVerdict};
 ghost use Rattle.grids.specs.Columns.{cellAt};
 ghost use Rattle.verdicts.specs.Cells.{sheet, elementIn, linkIn, verdictIn, columnCount, Seated, MembershipCovered, LinkCovered, MembershipsCovered, LinksCovered, Covered};
+use sections::claimed;
 use sections::wide;
 use sheets::Verdict;
 
@@ -81,16 +81,6 @@ fn rules_verdict(rules: &[u8], values: &[u8], n: usize) -> Verdict
 }
 
 // ---- membership claims
-
-// Is the grade at least, or at most, the one claimed?
-fn claimed(sense: u8, grade: u8, actual: u8) -> bool
-    ensures { λ r. ⌜ Tells r (Claimed (senseOf sense) grade actual) ⌝ }
-{
-    if sense == 0 {
-        return grade <= actual;
-    }
-    actual <= grade
-}
 
 fn membership_verdict(
     memberships: &[u8],

@@ -1,9 +1,9 @@
--- `placer::claimed` meets its contract. The byte 0 is "at least", every other "at most".
+-- `sections::claimed` meets its contract. The byte 0 is "at least", every other "at most".
 -- Assumes nothing.
 use Rattle.chain.proofs.Decisions.{tells-le}
-use Rattle.placer.proofs.Filter.{sense-least, sense-most}
-use Rattle.placer.proofs.claimed.Statement.{statement}
-use Rattle.placer.proofs.claimed.Tie as tie
+use Rattle.sections.proofs.Claims.{sense-least, sense-most}
+use Rattle.sections.proofs.claimed.Statement.{statement}
+use Rattle.sections.proofs.claimed.Tie as tie
 
 returns : tie.Need-returns
 returns c = rw (sense-least _ (c .if1 .taken)) (tells-le _ _)
