@@ -2,9 +2,11 @@
 ghost use mathlib.Core.Path.{_≡_};
 ghost use Prim.Native.Nat.{_+_, _*_, _≤_, _<_};
 ghost use lib.ListN.{length, getD};
+ghost use lib.Seq.{sets};
 ghost use Rattle.chain.specs.Decisions.{Tells};
 ghost use Rattle.chain.specs.Questions.{firstNo};
 ghost use Rattle.book.specs.Layout.{wordAt, sectionsOf, LengthRight, StepsRight, CountsRight, LaidOut};
+ghost use Rattle.book.specs.Writing.{wordBytes};
 ghost use Rattle.book.specs.Opening.{bodyQuestions, Right, opened, openedOf, countedOf};
 use powers::Power;
 use sections::wide;
@@ -37,6 +39,15 @@ pub fn word(b: &[u8], at: usize) -> usize
     ensures { λ r. ⌜ (r ≡ wordAt (now (b .entry)) at) × (r < 65536) ⌝ }
 {
     wide(b[at]) * 256 + wide(b[at + 1])
+}
+
+// Writes one.
+pub fn write_word(b: &mut [u8], at: usize, v: u16)
+    requires { ⌜ at + 1 < length (now b) ⌝ }
+    ensures { λ _. ⌜ now (b .exit) ≡ sets (now (b .entry)) at (wordBytes v) ⌝ }
+{
+    b[at] = (v / 256) as u8;
+    b[at + 1] = (v % 256) as u8;
 }
 
 fn length_right(b: &[u8]) -> bool

@@ -3,13 +3,13 @@
 use mathlib.Core.Path.{_≡_, refl, sym, ap, ap₂, subst, _∙_}
 use mathlib.Core.Bool.{Bool, true, false}
 use mathlib.Core.Option.{Option, none, some}
-use mathlib.Core.List.{List, [], _∷_, _++_, flatMap, append-assoc}
-use Prim.Native.Nat.{ℕ, suc, _+_, _*_, _/_, _%_, _≤_, _<_}
+use mathlib.Core.List.{List, [], _∷_, _++_, flatMap}
+use Prim.Native.Nat.{ℕ, _+_, _*_, _/_, _%_, _≤_, _<_}
 use native.Mathlib.Decide.{decLe}
 use native.Mathlib.Numerals.{add-one}
 use native.Mathlib.Omega.{arith}
-use lib.ListN.{length, getD, set, take, drop, length-append, length-drop}
-use lib.Seq.{take-suc, take-length, length-take-le, drop-cons, set-at}
+use lib.ListN.{length, getD, take, drop, length-append, length-drop}
+use lib.Seq.{take-suc, take-length, length-take-le, take-at, drop-at, drop-drop, sets, sets-eq}
 use Rattle.chain.specs.Questions.{firstNo}
 use Rattle.chain.proofs.Lists.{at-mem}
 use Rattle.chain.proofs.Questions.{first-empty, first-yes, first-no, first-none, first-some-append, first-none-append}
@@ -213,34 +213,31 @@ unfolding flatMap
 words-snoc [] v = refl
 words-snoc (x ∷ xs) v = ap (λ (l : List ℕ). x / 256 ∷ x % 256 ∷ l) (words-snoc xs v)
 
-two-set : (xs q : List ℕ) (n a c : ℕ) → length xs ≡ n → n + 1 < length q
-    → set (set (xs ++ drop n q) n a) (n + 1) c ≡ (xs ++ (a ∷ c ∷ [])) ++ drop (n + 2) q
-two-set xs q n a c e h =
-    ap (λ (l : List ℕ). set (set (xs ++ l) n a) (n + 1) c) (drop-cons q n 0 (omega arith))
-    ∙ ap (λ (l : List ℕ). set l (n + 1) c) (set-at xs (getD q n 0) (drop (suc n) q) a n e)
-    ∙ ap (λ (l : List ℕ). set (xs ++ a ∷ l) (n + 1) c) (drop-cons q (suc n) 0 (omega arith))
-    ∙ ap (λ (l : List ℕ). set l (n + 1) c) (sym (append-assoc xs (a ∷ []) (getD q (suc n) 0 ∷ drop (suc (suc n)) q)))
-    ∙ set-at (xs ++ (a ∷ [])) (getD q (suc n) 0) (drop (suc (suc n)) q) c (n + 1) (length-append xs (a ∷ []) ∙ omega (arith, e))
-    ∙ append-assoc xs (a ∷ []) (c ∷ drop (suc (suc n)) q)
-    ∙ ap (λ (k : ℕ). xs ++ a ∷ c ∷ drop k q) two
-    ∙ sym (append-assoc xs (a ∷ c ∷ []) (drop (n + 2) q))
-  where
-    two : suc (suc n) ≡ n + 2
-    two = omega arith
-
 module _ (seats q : List ℕ) where
   pub placement-start : q ≡ flatMap wordBytes (take 0 seats) ++ drop (2 * 0) q
   unfolding flatMap
   placement-start = refl
 
-  pub placement-turn : (i : ℕ) (l : List ℕ) → i < length seats → 2 * length seats ≤ length q → l ≡ flatMap wordBytes (take i seats) ++ drop (2 * i) q
-      → let v : ℕ = getD seats i 0 in set (set l (2 * i) (v / 256)) (2 * i + 1) (v % 256) ≡ flatMap wordBytes (take (i + 1) seats) ++ drop (2 * (i + 1)) q
-  placement-turn i l h k e =
-      let v : ℕ = getD seats i 0 in
-      let two : 2 * i + 2 ≡ 2 * (i + 1) = omega arith in
-      ap (λ (x : List ℕ). set (set x (2 * i) (v / 256)) (2 * i + 1) (v % 256)) e
-      ∙ two-set (flatMap wordBytes (take i seats)) q (2 * i) (v / 256) (v % 256) (length-words (take i seats) ∙ ap (λ (n : ℕ). 2 * n) (length-take-le i seats (omega arith))) (omega arith)
-      ∙ ap₂ {C = List ℕ} _++_ (sym (words-snoc (take i seats) v) ∙ ap (flatMap wordBytes) (sym (take-suc seats i 0 h) ∙ ap (λ (n : ℕ). take n seats) (sym (add-one i)))) (ap (λ (n : ℕ). drop n q) two)
+  pub placement-turn : (i : ℕ) (l : List ℕ) → i < length seats → 2 * length seats ≤ length q → length l ≡ length q → l ≡ flatMap wordBytes (take i seats) ++ drop (2 * i) q
+      → sets l (2 * i) (wordBytes (getD seats i 0)) ≡ flatMap wordBytes (take (i + 1) seats) ++ drop (2 * (i + 1)) q
+  placement-turn i l h k same e =
+      sets-eq (wordBytes v) l (2 * i) (omega arith)
+      ∙ ap₂ {C = List ℕ} _++_ (ap (λ (xs : List ℕ). xs ++ wordBytes v) before ∙ sym (words-snoc (take i seats) v) ∙ ap (flatMap wordBytes) (sym (rw (add-one i) (take-suc seats i 0 h)))) after
+    where
+      v : ℕ
+      v = getD seats i 0
+
+      done : length (flatMap wordBytes (take i seats)) ≡ 2 * i
+      done = length-words (take i seats) ∙ ap (λ (n : ℕ). 2 * n) (length-take-le i seats (omega arith))
+
+      before : take (2 * i) l ≡ flatMap wordBytes (take i seats)
+      before = ap (take (2 * i)) e ∙ take-at (flatMap wordBytes (take i seats)) (drop (2 * i) q) (2 * i) done
+
+      after : drop (2 * i + 2) l ≡ drop (2 * (i + 1)) q
+      after =
+          let two : 2 * i + 2 ≡ 2 * (i + 1) = omega arith in
+          sym (drop-drop 2 (2 * i) l) ∙ ap (drop 2) (ap (drop (2 * i)) e ∙ drop-at (flatMap wordBytes (take i seats)) (drop (2 * i) q) (2 * i) done)
+          ∙ drop-drop 2 (2 * i) q ∙ ap (λ (n : ℕ). drop n q) two
 
   pub placement-end : (i : ℕ) (l : List ℕ) → i ≡ length seats → l ≡ flatMap wordBytes (take i seats) ++ drop (2 * i) q
       → l ≡ flatMap wordBytes seats ++ drop (2 * length seats) q

@@ -1,8 +1,8 @@
 // Decides a book: the survivors by elimination, then the first placement of its individuals at them.
 ghost use mathlib.Core.Path.{_≡_};
 ghost use mathlib.Core.List.{_++_, flatMap};
-ghost use Prim.Native.Nat.{_+_, _*_, _/_, _%_, _<_, _≤_};
-ghost use lib.ListN.{length, set, take, drop};
+ghost use Prim.Native.Nat.{_*_, _<_, _≤_};
+ghost use lib.ListN.{length, take, drop};
 ghost use Rattle.semantics.specs.Books.{individuals as individualsOf};
 ghost use Rattle.semantics.specs.Candidates.{candidates};
 ghost use Rattle.book.specs.Opening.{Right, countedOf};
@@ -25,15 +25,6 @@ pub enum Decision {
 
 // ---- the placement's bytes
 
-// Writes a two-byte number, the high byte first.
-fn write_word(b: &mut [u8], at: usize, v: u16)
-    requires { ⌜ at + 1 < length (now b) ⌝ }
-    ensures { λ _. ⌜ now (b .exit) ≡ set (set (now (b .entry)) at (v / 256)) (at + 1) (v % 256) ⌝ }
-{
-    b[at] = (v / 256) as u8;
-    b[at + 1] = (v % 256) as u8;
-}
-
 // Writes a placement, two bytes per individual.
 fn write_placement(seats: &[u16], placement: &mut [u8])
     requires { ⌜ 2 * length (now seats) ≤ length (now placement) ⌝ }
@@ -42,7 +33,7 @@ fn write_placement(seats: &[u16], placement: &mut [u8])
     let count = seats.len();
     let mut i = 0;
     while i < count {
-        write_word(placement, 2 * i, seats[i]);
+        book::write_word(placement, 2 * i, seats[i]);
         i += 1;
     }
 }

@@ -1,7 +1,7 @@
 // Listing the marked candidates, and writing the sheet of their interpretation.
 ghost use mathlib.Core.Path.{_≡_};
 ghost use mathlib.Core.List.{_++_};
-ghost use Prim.Native.Nat.{ℕ, _+_, _*_, _/_, _%_, _<_, _≤_};
+ghost use Prim.Native.Nat.{ℕ, _+_, _*_, _<_, _≤_};
 ghost use lib.ListN.{length, getD, take, drop};
 ghost use Rattle.chain.specs.Decisions.{Tells};
 ghost use Rattle.chain.specs.Lists.{table, index};
@@ -13,6 +13,7 @@ ghost use Rattle.sheets.specs.Writing.{shapeFor, sheetBytes};
 ghost use Rattle.elimination.specs.Marks.{marked};
 ghost use Rattle.models.specs.Listing.{Lists};
 ghost use Rattle.models.specs.Rows.{Small, modelOf, rowAt, HoldsRows, nameIn, linkIn, rowsIn, namesBy, squareBy, linksBy, headBy};
+use book::write_word;
 use sections::wide;
 use sheets::Shape;
 
@@ -219,19 +220,6 @@ fn write_seats(types: &[u16], seats: &[u16], body: &mut [u8])
 
 // ---- the head
 
-fn high_byte(x: usize) -> u8
-    requires { ⌜ x < 65536 ⌝ }
-    ensures { λ r. ⌜ r ≡ x / 256 ⌝ }
-{
-    (x / 256) as u8
-}
-
-fn low_byte(x: usize) -> u8
-    ensures { λ r. ⌜ r ≡ x % 256 ⌝ }
-{
-    (x % 256) as u8
-}
-
 // Writes the 12 bytes of the head.
 fn write_head(steps: u8, p: Shape, head: &mut [u8])
     requires { ⌜ Small p × (length (now head) ≡ 12) ⌝ }
@@ -245,12 +233,9 @@ fn write_head(steps: u8, p: Shape, head: &mut [u8])
     head[3] = p.names as u8;
     head[4] = p.roles as u8;
     head[5] = p.individuals as u8;
-    head[6] = 0;
-    head[7] = 12;
-    head[8] = high_byte(links);
-    head[9] = low_byte(links);
-    head[10] = high_byte(individuals);
-    head[11] = low_byte(individuals);
+    write_word(head, 6, 12);
+    write_word(head, 8, links as u16);
+    write_word(head, 10, individuals as u16);
 }
 
 // ---- the sheet

@@ -10,7 +10,6 @@ use Rattle.book.specs.Writing.{wordBytes}
 use Rattle.decider.proofs.Deciding.{placement-start, placement-turn, placement-end}
 use Rattle.decider.proofs.write_placement.Reads as reads
 use Rattle.decider.proofs.write_placement.Lts as lts
-use Rattle.decider.proofs.write_word.Reads as write-word-reads
 use Rattle.decider.proofs.write_placement.Statement.{statement}
 use Rattle.decider.proofs.write_placement.Tie as tie
 
@@ -47,7 +46,7 @@ loop-less c = search needs
 loop-again : tie.Need-loop-again Inv-loop μ-loop
 loop-again c =
     let s = c .before .before .before .before .before .before .before .before .before in
-    (omega arith, omega (arith, c .before .before .write-word .kept, c .before .before .before .before .before .before .loop .inv .1), c .before .before .write-word .ensures ∙ placement-turn (s .args .seats .now) (s .args .placement .now) (c .before .before .before .before .before .before .loop .i) (c .before .before .before .before .before .before .loop .placement) (omega arith) (s .pre) (c .before .before .before .before .before .before .loop .inv .2))
+    (omega arith, omega (arith, c .before .before .write-word .kept, c .before .before .before .before .before .before .loop .inv .1), c .before .before .write-word .ensures ∙ placement-turn (s .args .seats .now) (s .args .placement .now) (c .before .before .before .before .before .before .loop .i) (c .before .before .before .before .before .before .loop .placement) (omega arith) (s .pre) (c .before .before .before .before .before .before .loop .inv .1) (c .before .before .before .before .before .before .loop .inv .2))
 
 same-length : tie.Need-same-length Inv-loop μ-loop
 same-length c = c .before .loop .inv .1

@@ -1,9 +1,12 @@
--- `models::write_head` meets its contract. Twelve stores, one after another.
+-- `models::write_head` meets its contract. Six stores and three words, one after another.
 -- Assumes nothing.
-use mathlib.Core.List.{[], _∷_, flatMap}
+use mathlib.Core.Path.{ap, _∙_}
+use mathlib.Core.List.{List, [], _∷_, flatMap}
+use Prim.Native.Nat.{ℕ}
 use native.Mathlib.Omega.{arith}
-use lib.Seq.{lt-length-sets, length-sets}
+use lib.Seq.{sets, lt-length-sets, length-sets}
 use borrow.Author.Needs.{needs}
+use Rattle.book.specs.Writing.{wordBytes}
 use Rattle.models.specs.Rows.{headBy}
 use Rattle.models.proofs.Filling.{stored}
 use Rattle.models.proofs.Rows.{small-indexable, small-offsets}
@@ -54,82 +57,48 @@ slice-write-head-6 c =
     (1 ∷ s .args .steps ∷ s .args .p .elements ∷ s .args .p .names ∷ s .args .p .roles ∷ [])
     (omega (arith, s .pre .1))
 
-slice-write-head-7 : tie.Need-slice-write-head-7
-slice-write-head-7 c =
-    let s = c .before .before .before .before .before .before .before in
+write-word-requires : tie.Need-write-word-requires
+write-word-requires c κs =
+    let s = c .before .before .before .before .before .before .before .before in
     lt-length-sets (s .args .head .now) 0
     (1 ∷ s .args .steps ∷ s .args .p .elements ∷ s .args .p .names ∷ s .args .p .roles ∷ s .args .p .individuals ∷ [])
     (omega (arith, s .pre .1))
 
-slice-write-head-8 : tie.Need-slice-write-head-8
-slice-write-head-8 c =
-    let s = c .before .before .before .before .before .before .before in
-    lt-length-sets (s .args .head .now) 0
-    (1 ∷ s .args .steps ∷ s .args .p .elements ∷ s .args .p .names ∷ s .args .p .roles ∷ s .args .p .individuals ∷ 0 ∷ [])
-    (omega (arith, s .pre .1))
+cast-write-word : tie.Need-cast-write-word
+cast-write-word c =
+    let s = c .before .before .before .before .before .before .before .before .before .before .before .before in
+    omega (arith, small-offsets (s .args .p) (s .pre .0), c .before .before .before .before .before .before .before .before .before .before .links-at .ensures)
 
-high-byte-requires : tie.Need-high-byte-requires
-high-byte-requires c κs =
-    let s = c .before .before .before .before .before .before .before in
-    omega (arith, small-offsets (s .args .p) (s .pre .0), c .before .before .before .before .before .links-at .ensures)
+write-word-requires-2 : tie.Need-write-word-requires-2
+write-word-requires-2 c κs =
+    let s = c .before .before .before .before .before .before .before .before .before .before .before .before in
+    omega (arith, c .before .before .before .write-word .kept, length-sets (s .args .head .now) 0 (1 ∷ s .args .steps ∷ s .args .p .elements ∷ s .args .p .names ∷ s .args .p .roles ∷ s .args .p .individuals ∷ []), s .pre .1)
 
-slice-write-head-9 : tie.Need-slice-write-head-9
-slice-write-head-9 c =
-    let s = c .before .before .before .before .before .before .before .before in
-    lt-length-sets (s .args .head .now) 0
-    (1 ∷ s .args .steps ∷ s .args .p .elements ∷ s .args .p .names ∷ s .args .p .roles ∷ s .args .p .individuals ∷ 0 ∷ 12 ∷ [])
-    (omega (arith, s .pre .1))
+cast-write-word-2 : tie.Need-cast-write-word-2
+cast-write-word-2 c =
+    let s = c .before .before .before .before .before .before .before .before .before .before .before .before .before .before .before .before in
+    omega (arith, small-offsets (s .args .p) (s .pre .0), c .before .before .before .before .before .before .before .before .before .before .before .before .before .individuals-at .ensures)
 
-low-byte-requires : tie.Need-low-byte-requires
-low-byte-requires c κs = search needs
-
-slice-write-head-10 : tie.Need-slice-write-head-10
-slice-write-head-10 c =
-    let s = c .before .before .before .before .before .before .before .before .before in
-    lt-length-sets (s .args .head .now) 0
-    (1 ∷ s .args .steps ∷ s .args .p .elements ∷ s .args .p .names ∷ s .args .p .roles ∷ s .args .p .individuals ∷ 0 ∷ 12 ∷ c .before .high-byte .result ∷ [])
-    (omega (arith, s .pre .1))
-
-high-byte-requires-2 : tie.Need-high-byte-requires-2
-high-byte-requires-2 c κs =
-    let s = c .before .before .before .before .before .before .before .before .before in
-    omega (arith, small-offsets (s .args .p) (s .pre .0), c .before .before .before .before .before .before .individuals-at .ensures)
-
-slice-write-head-11 : tie.Need-slice-write-head-11
-slice-write-head-11 c =
-    let s = c .before .before .before .before .before .before .before .before .before .before in
-    lt-length-sets (s .args .head .now) 0
-    (1 ∷ s .args .steps ∷ s .args .p .elements ∷ s .args .p .names ∷ s .args .p .roles ∷ s .args .p .individuals ∷ 0 ∷ 12 ∷ c .before .before .high-byte .result ∷ c .before .low-byte .result ∷ [])
-    (omega (arith, s .pre .1))
-
-low-byte-requires-2 : tie.Need-low-byte-requires-2
-low-byte-requires-2 c κs = search needs
-
-slice-write-head-12 : tie.Need-slice-write-head-12
-slice-write-head-12 c =
-    let s = c .before .before .before .before .before .before .before .before .before .before .before in
-    lt-length-sets (s .args .head .now) 0
-    (1 ∷ s .args .steps ∷ s .args .p .elements ∷ s .args .p .names ∷ s .args .p .roles ∷ s .args .p .individuals ∷ 0 ∷ 12 ∷ c .before .before .before .high-byte .result ∷ c .before .before .low-byte .result ∷ c .before .high-byte2 .result ∷ [])
-    (omega (arith, s .pre .1))
+write-word-requires-3 : tie.Need-write-word-requires-3
+write-word-requires-3 c κs =
+    let s = c .before .before .before .before .before .before .before .before .before .before .before .before .before .before .before .before in
+    omega (arith, c .before .before .before .write-word2 .kept, c .before .before .before .before .before .before .before .write-word .kept, length-sets (s .args .head .now) 0 (1 ∷ s .args .steps ∷ s .args .p .elements ∷ s .args .p .names ∷ s .args .p .roles ∷ s .args .p .individuals ∷ []), s .pre .1)
 
 same-length : tie.Need-same-length
 same-length c =
-    let s = c .before .before .before .before .before .before .before .before .before .before .before in
-    length-sets (s .args .head .now) 0
-    (1 ∷ s .args .steps ∷ s .args .p .elements ∷ s .args .p .names ∷ s .args .p .roles ∷ s .args .p .individuals ∷ 0 ∷ 12 ∷ c .before .before .before .high-byte .result ∷ c .before .before .low-byte .result ∷ c .before .high-byte2 .result ∷ c .low-byte2 .result ∷ [])
+    let s = c .before .before .before .before .before .before .before .before .before .before .before .before .before .before .before .before .before .before .before in
+    omega (arith, c .before .before .write-word3 .kept, c .before .before .before .before .before .before .write-word2 .kept, c .before .before .before .before .before .before .before .before .before .before .write-word .kept, length-sets (s .args .head .now) 0 (1 ∷ s .args .steps ∷ s .args .p .elements ∷ s .args .p .names ∷ s .args .p .roles ∷ s .args .p .individuals ∷ []))
 
 returns : tie.Need-returns
 unfolding flatMap
 returns c =
-    let s = c .before .before .before .before .before .before .before .before .before .before .before in
-    rw (
-      c .before .before .before .high-byte .ensures,
-      c .before .before .low-byte .ensures,
-      c .before .high-byte2 .ensures,
-      c .low-byte2 .ensures,
-      c .before .before .before .before .before .before .before .before .before .links-at .ensures,
-      c .before .before .before .before .before .before .before .before .individuals-at .ensures,
-    ) (stored (headBy (s .args .steps) (s .args .p)) (s .args .head .now) (s .pre .1))
+    let s = c .before .before .before .before .before .before .before .before .before .before .before .before .before .before .before .before .before .before .before in
+    let links = c .before .before .before .before .before .before .before .before .before .before .before .before .before .before .before .before .before .links-at in
+    let individuals = c .before .before .before .before .before .before .before .before .before .before .before .before .before .before .before .before .individuals-at in
+    c .before .before .write-word3 .ensures
+    ∙ ap (λ (l : List ℕ). sets l 10 (wordBytes (individuals .result)))
+    (c .before .before .before .before .before .before .write-word2 .ensures ∙ ap (λ (l : List ℕ). sets l 8 (wordBytes (links .result))) (c .before .before .before .before .before .before .before .before .before .before .write-word .ensures))
+    ∙ rw (links .ensures, individuals .ensures) (stored (headBy (s .args .steps) (s .args .p)) (s .args .head .now) (s .pre .1))
 
 pub write-head-spec : {M : Type 1} → statement M
 write-head-spec =
@@ -147,15 +116,10 @@ write-head-spec =
     slice-write-head-5
     cast-head-4
     slice-write-head-6
-    slice-write-head-7
-    slice-write-head-8
-    high-byte-requires
-    slice-write-head-9
-    low-byte-requires
-    slice-write-head-10
-    high-byte-requires-2
-    slice-write-head-11
-    low-byte-requires-2
-    slice-write-head-12
+    write-word-requires
+    cast-write-word
+    write-word-requires-2
+    cast-write-word-2
+    write-word-requires-3
     same-length
     returns)
