@@ -26,8 +26,8 @@ use Rattle.semantics.proofs.Candidates.{home-quantifying}
 use Rattle.sections.specs.Terms.{termOf, kindAt, aAt, bAt, termCount, termsOf}
 use Rattle.sections.specs.Rules.{ruleCount, ruleAt, rulesOf, RulesRight}
 use Rattle.sections.proofs.Terms.{by-kind, term-at, length-terms}
-use Rattle.grades.specs.Rows.{rowOf}
-use Rattle.grades.proofs.Rows.{HasGrades, front-grades}
+use Rattle.grades.specs.Rows.{rowOf, HasGrades}
+use Rattle.grades.proofs.Rows.{front-grades}
 use Rattle.elimination.specs.Survivors.{Obeys}
 use Rattle.elimination.specs.Marks.{Marked, marked?}
 use Rattle.witnesses.specs.Tables.{slotCount, slotKind, slotRole, slotChild, slotTerm, quantifierOf, cell, SlotsOf}

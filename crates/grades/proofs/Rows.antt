@@ -1,12 +1,14 @@
--- Laws of rows of grades, and of the link of two rows: it is that of their candidates.
+-- Laws of rows of grades, of tables of rows, and of the link of two rows: it is that of their candidates.
 -- Assumes nothing.
-use mathlib.Core.Path.{_≡_, refl, ap, _∙_}
+use mathlib.Core.Path.{_≡_, refl, sym, ap, subst, _∙_}
 use mathlib.Core.Logic.{_↔_, Iff·symm, Iff·trans, Iff·and}
-use mathlib.Core.List.{List, _++_}
-use Prim.Native.Nat.{ℕ, _-_, _≤_, _<_, min, max}
+use mathlib.Core.List.{List, [], _∷_, _++_}
+use Prim.Native.Nat.{ℕ, zero, suc, _+_, _-_, _*_, _≤_, _<_, min, max}
 use native.Mathlib.Nat.{le-antisymm}
 use native.Mathlib.Omega.{arith}
-use lib.ListN.{length, getD, List·getD-append}
+use lib.ListN.{length, getD, take, drop, length-drop, List·getD-append}
+use lib.Seq.{length-take-le, take-take, take-at, drop-at}
+use borrow.Author.Count.{below-more}
 use Rattle.chain.specs.Search.{greatest}
 use Rattle.chain.specs.Lists.{table}
 use Rattle.chain.specs.Connectives.{Quantifier, existential, universal}
@@ -23,13 +25,9 @@ use Rattle.semantics.proofs.Candidates.{gradeIn-le}
 use Rattle.semantics.proofs.Links.{link-le, link-allows}
 use Rattle.sections.specs.Terms.{termCount, termsOf}
 use Rattle.sections.proofs.Terms.{length-terms}
-use Rattle.grades.specs.Rows.{rowOf, RowsAllow, rowsAllow?, linkOfRows}
+use Rattle.grades.specs.Rows.{rowOf, HasGrades, rowAt, EachRow, RowsAllow, rowsAllow?, linkOfRows}
 
 -- ---- a candidate's row
-
--- the first entries of the list are the candidate's grades
-abbrev pub HasGrades : Grading → ℕ → List ℕ → Type 0
-HasGrades G c xs = (i : ℕ) → i < length (G .terms) → getD xs i 0 ≡ gradeIn G c i
 
 module _ (G : Grading) (c : ℕ) where
   pub length-row : length (rowOf G c) ≡ length (G .terms)
@@ -53,6 +51,40 @@ module _ (G : Grading) (c : ℕ) where
 pub row-terms : (N : ℕ) (s : List ℕ) (c : ℕ) → rowOf (graded N (termsOf s)) c ≡ table (gradeIn (graded N (termsOf s)) c) (termCount s)
 unfolding rowOf
 row-terms N s c = ap (table (gradeIn (graded N (termsOf s)) c)) (length-terms s)
+
+-- ---- a table of rows
+
+-- a row, by the bounds that code has
+pub row-part : (rows : List ℕ) (k : ℕ) → take (64 * k + 64 - 64 * k) (drop (64 * k) rows) ≡ rowAt rows k
+row-part rows k = let e : 64 * k + 64 - 64 * k ≡ 64 = omega arith in rw e
+
+pub length-rowAt : (rows : List ℕ) (k : ℕ) → 64 * k + 64 ≤ length rows → length (rowAt rows k) ≡ 64
+length-rowAt rows k h = length-take-le 64 (drop (64 * k) rows) (omega (arith, length-drop (64 * k) rows))
+
+-- a row that is put after the first k
+module _ (rows row rest : List ℕ) (k : ℕ) (long : 64 * k ≤ length rows) where
+  pub put-before : take (64 * k) (take (64 * k) rows ++ (row ++ rest)) ≡ take (64 * k) rows
+  put-before = take-at (take (64 * k) rows) (row ++ rest) (64 * k) (length-take-le (64 * k) rows long)
+
+  pub put-here : length row ≡ 64 → rowAt (take (64 * k) rows ++ (row ++ rest)) k ≡ row
+  put-here h = ap (take 64) (drop-at (take (64 * k) rows) (row ++ rest) (64 * k) (length-take-le (64 * k) rows long)) ∙ take-at row rest 64 h
+
+-- a part depends on nothing behind it
+part-front : (n m k : ℕ) (l : List ℕ) → n + m ≤ k → take m (drop n l) ≡ take m (drop n (take k l))
+part-front zero m k l h = sym (take-take m k l (omega arith))
+part-front (suc n) m zero l h = absurd (omega arith)
+part-front (suc n) m (suc k) [] h = refl
+part-front (suc n) m (suc k) (x ∷ xs) h = part-front n m k xs (omega arith)
+
+-- one row more, where those before it stay
+pub each-row-more : (P : ℕ → List ℕ → Type 0) (k : ℕ) (old new : List ℕ) → take (64 * k) new ≡ take (64 * k) old → EachRow P k old → P k (rowAt new k)
+    → EachRow P (k + 1) new
+each-row-more P k old new same each here = below-more (λ j. P j (rowAt new j)) k (λ j l. subst (P j) (sym (kept j l)) (each j l)) here
+  where
+    kept : (j : ℕ) → j < k → rowAt new j ≡ rowAt old j
+    kept j l =
+        part-front (64 * j) 64 (64 * k) new (omega arith) ∙ ap (λ (x : List ℕ). take 64 (drop (64 * j) x)) same
+        ∙ sym (part-front (64 * j) 64 (64 * k) old (omega arith))
 
 -- ---- the link of two rows
 

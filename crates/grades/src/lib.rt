@@ -1,14 +1,14 @@
 // Grades of terms in candidates and links of candidates, by rows: a candidate's type is the row of its grades.
 ghost use mathlib.Core.Path.{_≡_};
 ghost use mathlib.Core.List.{_++_};
-ghost use Prim.Native.Nat.{ℕ, _+_, _-_, _%_, _<_, _≤_, min, max};
-ghost use lib.ListN.{length, getD, drop};
+ghost use Prim.Native.Nat.{ℕ, _+_, _-_, _*_, _%_, _<_, _≤_, min, max};
+ghost use lib.ListN.{length, getD, take, drop};
 ghost use Rattle.chain.specs.Decisions.{Tells};
 ghost use Rattle.semantics.specs.Interpretations.{graded};
 ghost use Rattle.semantics.specs.Candidates.{gradeIn};
 ghost use Rattle.semantics.specs.Links.{link};
 ghost use Rattle.sections.specs.Terms.{termCount, termAt, termsOf, TermsRight};
-ghost use Rattle.grades.specs.Rows.{rowOf, RowsAllow, linkOfRows};
+ghost use Rattle.grades.specs.Rows.{rowOf, HasGrades, rowAt, RowsAllow, linkOfRows};
 ghost use Rattle.grades.specs.OneTerm.{nextGrade, restAfter, TermAllows};
 use sections::is_place;
 
@@ -115,6 +115,30 @@ pub fn grade_of(terms: &[u8], steps: u8, c: usize, i: usize) -> u8
     let mut row = [0u8; 64];
     fill_row(terms, steps, c, &mut row);
     row[i]
+}
+
+// ---- a table of rows, 64 bytes each
+
+// Row `k`.
+pub fn row_at(rows: &[u8], k: usize) -> &[u8]
+    requires { ⌜ 64 * k + 64 ≤ length (now rows) ⌝ }
+    ensures { λ r. ⌜ now r ≡ rowAt (now (rows .entry)) k ⌝ }
+{
+    let start = 64 * k;
+    let end = start + 64;
+    &rows[start..end]
+}
+
+// Makes the row of candidate `c` row `k`. Those before it stay.
+pub fn put_row(terms: &[u8], steps: u8, c: usize, rows: &mut [u8], k: usize)
+    requires { ⌜ TermsRight (now terms) ⌝ }
+    requires { ⌜ (termCount (now terms) ≤ 64) × (64 * k + 64 ≤ length (now rows)) ⌝ }
+    ensures { λ _. ⌜ take (64 * k) (now (rows .exit)) ≡ take (64 * k) (now (rows .entry)) ⌝ }
+    ensures { λ _. ⌜ HasGrades (graded steps (termsOf (now (terms .entry)))) c (rowAt (now (rows .exit)) k) ⌝ }
+{
+    let start = 64 * k;
+    let end = start + 64;
+    fill_row(terms, steps, c, &mut rows[start..end]);
 }
 
 // ---- the link of two rows

@@ -1,14 +1,12 @@
--- Laws of the table of rows: one row more, a name's grade in a row, and that the interpretation by rows agrees with that of the types.
+-- Laws of the interpretation by rows: a name's grade in a row, and that the interpretation by rows agrees with that of the types.
 -- Assumes nothing.
 use mathlib.Core.Path.{_≡_, refl, sym, ap, _∙_}
 use mathlib.Core.Logic.{inl, inr, ⊎-elim}
 use mathlib.Core.List.{List, _++_, flatMap}
-use Prim.Native.Nat.{ℕ, _+_, _*_, _≤_, _<_}
+use Prim.Native.Nat.{ℕ, _*_, _≤_, _<_}
 use native.Mathlib.Omega.{arith}
-use lib.ListN.{length, getD, take, drop, length-append, length-drop, List·getD-append}
-use lib.Seq.{length-take-le, getD-take, getD-drop, getD-append-add}
+use lib.ListN.{length, getD, drop}
 use lib.Dec.{eqb}
-use borrow.Author.Count.{below-more}
 use Rattle.chain.specs.Decisions.{Tells}
 use Rattle.chain.specs.Search.{First}
 use Rattle.chain.specs.Lists.{table, index}
@@ -18,60 +16,18 @@ use Rattle.semantics.specs.Terms.{Term, name, term}
 use Rattle.semantics.specs.Interpretations.{Grading, graded}
 use Rattle.semantics.specs.Candidates.{named?, bearer, gradeIn}
 use Rattle.sections.specs.Terms.{kindByte, aByte, kindAt, aAt, termCount, termsOf, TermsRight}
-use Rattle.sections.proofs.Terms.{term-kind, length-terms, term-at, terms-ordered}
-use Rattle.grades.specs.Rows.{rowOf}
-use Rattle.grades.proofs.Rows.{HasGrades, length-row, front-grades, linkOfRows-link}
+use Rattle.sections.proofs.Terms.{term-kind, term-at, terms-ordered}
+use Rattle.grades.specs.Rows.{rowAt}
+use Rattle.grades.proofs.Rows.{linkOfRows-link}
 use Rattle.sheets.specs.Layout.{linksAt, individualsAt, endAt, Indexable}
 use Rattle.sheets.specs.Writing.{sheetBytes}
 use Rattle.sheets.specs.declared.Shape.{Shape}
 use Rattle.sheets.proofs.Bounds.{few-end}
 use Rattle.sheets.proofs.Agreement.{Agree}
 use Rattle.sheets.proofs.Writing.{sheet-same, length-blocks}
-use Rattle.models.specs.Rows.{Small, modelOf, rowAt, HoldsRows, nameIn, linkIn, rowsIn, namesBy, squareBy, linksBy, headBy}
+use Rattle.models.specs.Rows.{Small, modelOf, HoldsRows, nameIn, linkIn, rowsIn, namesBy, squareBy, linksBy, headBy}
 use Rattle.models.proofs.Listing.{first-found, first-missed}
 use Rattle.models.proofs.Filling.{pasted, paste-four}
-
--- ---- the table
-
-pub length-rowAt : (rows : List ℕ) (e : ℕ) → e < 64 → 4096 ≤ length rows → length (rowAt rows e) ≡ 64
-length-rowAt rows e h l = length-take-le 64 (drop (64 * e) rows) (omega (arith, length-drop (64 * e) rows))
-
--- one row more
-pub holds-more : (G : Grading) (xs : List ℕ) (e : ℕ) (rows row : List ℕ) → length (G .terms) ≤ 64 → length (G .terms) ≤ length row → 64 * e + 64 ≤ length rows
-    → HasGrades G (getD xs e 0) row → HoldsRows G xs e rows → HoldsRows G xs (e + 1) (pasted rows (64 * e) (64 * e + 64) row)
-holds-more G xs e rows row few long room has holds =
-    below-more (λ k. (i : ℕ) → i < length (G .terms) → getD (rowAt next k) i 0 ≡ gradeIn G (getD xs k 0) i) e
-    (λ k l i h. cell k i h ∙ before k i l h ∙ sym (at rows k i h) ∙ holds k l i h)
-    (λ i h. cell e i h ∙ own i h ∙ has i h)
-  where
-    next : List ℕ
-    next = pasted rows (64 * e) (64 * e + 64) row
-
-    front : length (take (64 * e) rows) ≡ 64 * e
-    front = length-take-le (64 * e) rows (omega arith)
-
-    at : (l : List ℕ) (k i : ℕ) → i < length (G .terms) → getD (rowAt l k) i 0 ≡ getD l (64 * k + i) 0
-    at l k i h = getD-take 64 (drop (64 * k) l) i 0 (omega arith) ∙ getD-drop (64 * k) l i 0
-
-    cell : (k i : ℕ) → i < length (G .terms) → getD (rowAt next k) i 0 ≡ getD next (64 * k + i) 0
-    cell = at next
-
-    before : (k i : ℕ) → k < e → i < length (G .terms) → getD next (64 * k + i) 0 ≡ getD rows (64 * k + i) 0
-    before k i l h =
-        List·getD-append (take (64 * e) rows) _ 0 (64 * k + i) (omega (arith, front)) ∙ getD-take (64 * e) rows (64 * k + i) 0 (omega arith)
-
-    own : (i : ℕ) → i < length (G .terms) → getD next (64 * e + i) 0 ≡ getD row i 0
-    own i h =
-        ap (λ (n : ℕ). getD next (n + i) 0) (sym front) ∙ getD-append-add (take (64 * e) rows) _ i 0 ∙ List·getD-append row _ 0 i (omega arith)
-
--- .. as it is filled
-pub holds-next : (N : ℕ) (s xs : List ℕ) (e x : ℕ) (rows row rest : List ℕ) → termCount s ≤ 64 → 64 * e + 64 ≤ length rows → x ≡ getD xs e 0
-    → row ≡ rowOf (graded N (termsOf s)) x ++ rest → HoldsRows (graded N (termsOf s)) xs e rows
-    → HoldsRows (graded N (termsOf s)) xs (e + 1) (pasted rows (64 * e) (64 * e + 64) row)
-holds-next N s xs e x rows row rest few room is fill holds =
-    let G = graded N (termsOf s) in
-    holds-more G xs e rows row (omega (arith, length-terms s)) (rw fill (omega (arith, length-append (rowOf G x) rest, length-row G x))) room
-    (rw (fill, ← is) (front-grades G x rest)) holds
 
 -- ---- a term with a name, by its bytes
 

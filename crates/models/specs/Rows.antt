@@ -1,16 +1,15 @@
 -- The interpretation of listed types as code works it out: by a table of the types' rows of grades.
 -- Assumes nothing.
-use mathlib.Core.Path.{_≡_}
 use mathlib.Core.Logic.{⊎-elim}
 use mathlib.Core.List.{List, [], flatMap}
-use Prim.Native.Nat.{ℕ, _*_, _≤_, _<_}
-use lib.ListN.{length, getD, take, drop}
+use Prim.Native.Nat.{ℕ, _≤_}
+use lib.ListN.{length, getD}
 use Rattle.chain.specs.Lists.{table, from, index}
 use Rattle.semantics.specs.Terms.{Term}
 use Rattle.semantics.specs.Interpretations.{Grading, graded, Interpretation}
-use Rattle.semantics.specs.Candidates.{bearer, gradeIn}
+use Rattle.semantics.specs.Candidates.{bearer}
 use Rattle.sections.specs.Terms.{termsOf}
-use Rattle.grades.specs.Rows.{linkOfRows}
+use Rattle.grades.specs.Rows.{HasGrades, rowAt, EachRow, linkOfRows}
 use Rattle.sheets.specs.Reading.{interpretation}
 use Rattle.sheets.specs.Writing.{headBytes}
 use Rattle.sheets.specs.declared.Shape.{Shape}
@@ -31,13 +30,9 @@ modelOf N s xs seats = typesIn (graded N (termsOf s)) xs (λ j. index xs (getD s
 
 -- ---- by rows
 
--- row e of the table, 64 grades
-abbrev pub rowAt : List ℕ → ℕ → List ℕ
-rowAt rows e = take 64 (drop (64 * e) rows)
-
--- the table's first k rows begin with the grades of all terms in the first k candidates of xs
+-- the table's first k rows are those of the first k candidates of xs
 abbrev pub HoldsRows : Grading → (xs : List ℕ) (k : ℕ) (rows : List ℕ) → Type 0
-HoldsRows G xs k rows = (e : ℕ) → e < k → (i : ℕ) → i < length (G .terms) → getD (rowAt rows e) i 0 ≡ gradeIn G (getD xs e 0) i
+HoldsRows G xs k rows = EachRow (λ e. HasGrades G (getD xs e 0)) k rows
 
 -- the grade of name a in a row: "names graded as in the type (0 for a name that no term uses)"
 unfoldable pub nameIn : List Term → (a : ℕ) (row : List ℕ) → ℕ

@@ -12,8 +12,10 @@ ghost use Rattle.sheets.specs.Layout.{endAt};
 ghost use Rattle.sheets.specs.Writing.{shapeFor, sheetBytes};
 ghost use Rattle.elimination.specs.Marks.{marked};
 ghost use Rattle.models.specs.Listing.{Lists};
-ghost use Rattle.models.specs.Rows.{Small, modelOf, rowAt, HoldsRows, nameIn, linkIn, rowsIn, namesBy, squareBy, linksBy, headBy};
+ghost use Rattle.models.specs.Rows.{Small, modelOf, HoldsRows, nameIn, linkIn, rowsIn, namesBy, squareBy, linksBy, headBy};
 use book::write_word;
+use grades::put_row;
+use grades::row_at;
 use sections::wide;
 use sheets::Shape;
 
@@ -63,20 +65,9 @@ fn fill_rows(terms: &[u8], steps: u8, types: &[u16], rows: &mut [u8])
 {
     let mut e = 0;
     while e < types.len() {
-        let start = 64 * e;
-        let end = start + 64;
-        grades::fill_row(terms, steps, number(types[e]), &mut rows[start..end]);
+        put_row(terms, steps, number(types[e]), rows, e);
         e += 1;
     }
-}
-
-fn row_of(rows: &[u8], e: usize) -> &[u8]
-    requires { ⌜ (e < 64) × (4096 ≤ length (now rows)) ⌝ }
-    ensures { λ r. ⌜ now r ≡ rowAt (now (rows .entry)) e ⌝ }
-{
-    let start = 64 * e;
-    let end = start + 64;
-    &rows[start..end]
 }
 
 // ---- the names
@@ -131,7 +122,7 @@ fn write_names(terms: &[u8], names: usize, rows: &[u8], n: usize, body: &mut [u8
     while e < n {
         let start = e * names;
         let end = start + names;
-        write_name_row(terms, row_of(rows, e), &mut body[start..end]);
+        write_name_row(terms, row_at(rows, e), &mut body[start..end]);
         e += 1;
     }
 }
@@ -143,7 +134,7 @@ fn link_at(terms: &[u8], steps: u8, role: u8, rows: &[u8], e: usize, f: usize) -
     requires { ⌜ (termCount (now terms) ≤ 64) × (e < 64) × (f < 64) × (4096 ≤ length (now rows)) ⌝ }
     ensures { λ r. ⌜ r ≡ linkIn steps (termsOf (now (terms .entry))) (now (rows .entry)) role e f ⌝ }
 {
-    grades::link_of_rows(terms, steps, role, row_of(rows, e), row_of(rows, f))
+    grades::link_of_rows(terms, steps, role, row_at(rows, e), row_at(rows, f))
 }
 
 // Writes the links of `role` from element `e` to each.

@@ -4,7 +4,7 @@ use mathlib.Core.Path.{_≡_, refl, sym, subst, _∙_}
 use mathlib.Core.Bool.{Bool}
 use mathlib.Core.Logic.{_↔_, ⊎-elim}
 use mathlib.Core.List.{List}
-use Prim.Native.Nat.{ℕ, _+_, _*_, _<_}
+use Prim.Native.Nat.{ℕ, _+_, _*_, _≤_, _<_}
 use native.Mathlib.Numerals.{add-one}
 use native.Mathlib.Decide.{ℕ-discrete}
 use native.Mathlib.Omega.{arith}
@@ -14,12 +14,15 @@ use Rattle.chain.specs.Decisions.{Tells}
 use Rattle.chain.proofs.Decisions.{tells-map}
 use Rattle.chain.proofs.Search.{below-cases}
 use Rattle.semantics.specs.Books.{Claimed}
+use Rattle.semantics.specs.Candidates.{gradeIn}
 use Rattle.sections.specs.Terms.{termCount, termsOf, TermsRight}
-use Rattle.sections.specs.Claims.{membershipAt, linkAt, MembershipsRight, LinksRight}
+use Rattle.sections.specs.Claims.{claimCount, membershipAt, linkAt, MembershipsRight, LinksRight}
 use Rattle.sections.proofs.Terms.{length-terms, terms-ordered}
-use Rattle.grades.proofs.Rows.{HasGrades, rows-link}
+use Rattle.grades.specs.Rows.{rowAt}
+use Rattle.grades.proofs.Rows.{length-rowAt, rows-link}
 use Rattle.elimination.specs.Marks.{Marked}
 use Rattle.placer.specs.Claims.{gradingOf, RowFor, Alone}
+use Rattle.placer.specs.Rows.{RowIn}
 use Rattle.placer.specs.Filter.{MembershipBy, MembershipsBy, SelvesBy, Allowed, Filtered, Column}
 
 -- ---- one claim
@@ -32,26 +35,31 @@ membership-told r ms j row i who term a b e t = tells-map r (λ h _. subst Met e
     Met : ℕ → Type 0
     Met x = Claimed (membershipAt ms i .sense) (membershipAt ms i .grade) (getD row x 0)
 
+-- a candidate's row of the table
+pub row-for : (N : ℕ) (ts rows : List ℕ) (c : ℕ) → termCount ts ≤ 64 → 64 * c + 64 ≤ length rows → RowIn N ts rows c → RowFor N ts c (rowAt rows c)
+row-for N ts rows c few room h = record { long = omega (arith, length-rowAt rows c room); grades = h }
+
 -- ---- the claims that mention one individual alone
 
 module _ (N : ℕ) (ts ms ls : List ℕ) (right : TermsRight ts) (members : MembershipsRight ms N (termCount ts)) (links : LinksRight ls N) (j c : ℕ) (row : List ℕ)
     (is : RowFor N ts c row) where
-  has : HasGrades (gradingOf N ts) c row
-  has i l = is .grades i (rw (← length-terms ts) l)
+  -- the grade of the term that a membership claim names
+  named : (i : ℕ) → i < claimCount ms → getD row (membershipAt ms i .term) 0 ≡ gradeIn (gradingOf N ts) c (membershipAt ms i .term)
+  named i l = is .grades (membershipAt ms i .term) (rw (length-terms ts) (members i l .1 .0))
 
   pub alone-made : MembershipsBy ms j row → SelvesBy N ts ls j row → Alone (gradingOf N ts) ms ls j c
   alone-made h g = record {
-    memberships = λ i l e. subst (λ (x : ℕ). Claimed (membershipAt ms i .sense) (membershipAt ms i .grade) x) (is .grades (membershipAt ms i .term) (members i l .1 .0)) (h i l e);
-    links = λ i l e f. rows-link N (termsOf ts) (terms-ordered ts right) (linkAt ls i .role) c c row row has has (linkAt ls i .grade) (links i l .1 .1 .1) .0 (g i l e f);
+    memberships = λ i l e. subst (λ (x : ℕ). Claimed (membershipAt ms i .sense) (membershipAt ms i .grade) x) (named i l) (h i l e);
+    links = λ i l e f. rows-link N (termsOf ts) (terms-ordered ts right) (linkAt ls i .role) c c row row (is .grades) (is .grades) (linkAt ls i .grade) (links i l .1 .1 .1) .0 (g i l e f);
   }
 
   pub alone-memberships : Alone (gradingOf N ts) ms ls j c → MembershipsBy ms j row
   alone-memberships a i l e =
-      subst (λ (x : ℕ). Claimed (membershipAt ms i .sense) (membershipAt ms i .grade) x) (sym (is .grades (membershipAt ms i .term) (members i l .1 .0))) (a .memberships i l e)
+      subst (λ (x : ℕ). Claimed (membershipAt ms i .sense) (membershipAt ms i .grade) x) (sym (named i l)) (a .memberships i l e)
 
   pub alone-selves : Alone (gradingOf N ts) ms ls j c → SelvesBy N ts ls j row
   alone-selves a i l e f =
-      rows-link N (termsOf ts) (terms-ordered ts right) (linkAt ls i .role) c c row row has has (linkAt ls i .grade) (links i l .1 .1 .1) .1 (a .links i l e f)
+      rows-link N (termsOf ts) (terms-ordered ts right) (linkAt ls i .role) c c row row (is .grades) (is .grades) (linkAt ls i .grade) (links i l .1 .1 .1) .1 (a .links i l e f)
 
 -- ---- the table fills, candidate by candidate, and for each of them individual by individual
 

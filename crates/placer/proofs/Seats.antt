@@ -12,17 +12,17 @@ use lib.Seq.{take-suc, take-suc-set, take-set-le, take-take, drop-cons, getD-tak
 use Rattle.chain.proofs.Search.{below-cases}
 use Rattle.semantics.specs.Books.{LinkClaim}
 use Rattle.semantics.specs.Links.{link}
-use Rattle.sections.specs.Terms.{termCount, termsOf, TermsRight}
+use Rattle.sections.specs.Terms.{termsOf, TermsRight}
 use Rattle.sections.specs.Claims.{claimCount, linkAt, LinksRight}
 use Rattle.sections.proofs.Terms.{terms-ordered}
+use Rattle.grades.specs.Rows.{rowAt}
 use Rattle.grades.proofs.Rows.{rows-link}
 use Rattle.placement.specs.Outcome.{seat}
 use Rattle.placer.specs.Walk.{walk}
 use Rattle.placer.specs.Claims.{gradingOf, latest, LinkMet}
 use Rattle.placer.specs.Filter.{Allowed}
-use Rattle.placer.specs.Rows.{rowAt, RowIn}
+use Rattle.placer.specs.Rows.{RowIn}
 use Rattle.placer.specs.Seats.{May, may?, walkOf, LinkBy, SeatedRows}
-use Rattle.placer.proofs.Rows.{row-has}
 use Rattle.placer.proofs.Walk.{rest, rest-start, rest-end, rest-not, rest-back, rest-found}
 
 -- ---- the seats of those before and of the next one
@@ -51,14 +51,13 @@ module _ (N : ℕ) (ts rows : List ℕ) where
       (below-cases k j (rw (← add-one k) l))
 
   -- their rows, the next one's among them, decide the link claims
-  module _ (ls : List ℕ) (right : TermsRight ts) (links : LinksRight ls N) (few : termCount ts ≤ 64) (v : List ℕ) (k : ℕ)
+  module _ (ls : List ℕ) (right : TermsRight ts) (links : LinksRight ls N) (v : List ℕ) (k : ℕ)
       (seated : SeatedRows N ts rows v (k + 1)) where
     by-rows : (i : ℕ) → i < claimCount ls → latest (linkAt ls i) ≡ k → LinkMet (gradingOf N ts) (seat v) (linkAt ls i) ↔ LinkBy N ts ls rows v k i
     by-rows i l e =
         let u = rows-link N (termsOf ts) (terms-ordered ts right) (linkAt ls i .role) (seat v (linkAt ls i .source)) (seat v (linkAt ls i .target))
         (rowAt rows (seat v (linkAt ls i .source))) (rowAt rows (seat v (linkAt ls i .target)))
-        (row-has N ts rows (seat v (linkAt ls i .source)) few (seated (linkAt ls i .source) (omega arith) .1))
-        (row-has N ts rows (seat v (linkAt ls i .target)) few (seated (linkAt ls i .target) (omega arith) .1))
+        (seated (linkAt ls i .source) (omega arith) .1) (seated (linkAt ls i .target) (omega arith) .1)
         (linkAt ls i .grade) (links i l .1 .1 .1) in
         (λ h _. u .1 h, λ f. u .0 (f e))
 
@@ -96,10 +95,10 @@ module _ (N : ℕ) (ts ls table : List ℕ) (count n k : ℕ) (q : List ℕ) whe
           w ∙ rest-not (May N ts ls table) (may? N ts ls table) count (n - (k + 1)) q c h
           (λ m. a (subst (λ (j : ℕ). Allowed table j c) len (m .allowed)))
 
-      module _ (right : TermsRight ts) (links : LinksRight ls N) (few : termCount ts ≤ 64) (rows : List ℕ) (seated : SeatedRows N ts rows (set seats k c) (k + 1)) where
+      module _ (right : TermsRight ts) (links : LinksRight ls N) (rows : List ℕ) (seated : SeatedRows N ts rows (set seats k c) (k + 1)) where
         met : (i : ℕ) → i < claimCount ls → latest (linkAt ls i) ≡ k → LinkMet (gradingOf N ts) (seat (q ++ c ∷ [])) (linkAt ls i) ↔ LinkBy N ts ls rows (set seats k c) k i
         met i l e =
-            let u = by-rows N ts rows ls right links few (set seats k c) k seated i l e in
+            let u = by-rows N ts rows ls right links (set seats k c) k seated i l e in
             let a : linkAt ls i .source ≤ k = omega arith in
             let b : linkAt ls i .target ≤ k = omega arith in (
               λ m. u .0 (link-same N ts (seat (q ++ c ∷ [])) (seat (set seats k c)) (linkAt ls i) (sits _ a) (sits _ b) m),

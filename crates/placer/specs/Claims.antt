@@ -3,22 +3,23 @@
 use mathlib.Core.Path.{_≡_}
 use mathlib.Core.List.{List}
 use Prim.Native.Nat.{ℕ, _≤_, _<_, max}
-use lib.ListN.{length, getD}
+use lib.ListN.{length}
 use Rattle.semantics.specs.Interpretations.{Grading, graded}
 use Rattle.semantics.specs.Books.{MembershipClaim, LinkClaim, Claimed}
 use Rattle.semantics.specs.Candidates.{gradeIn}
 use Rattle.semantics.specs.Links.{link}
 use Rattle.sections.specs.Terms.{termCount, termsOf}
 use Rattle.sections.specs.Claims.{claimCount, membershipAt, linkAt}
+use Rattle.grades.specs.Rows.{HasGrades}
 
 -- the grading of a section of terms on N steps
 abbrev pub gradingOf : (N : ℕ) (terms : List ℕ) → Grading
 gradingOf N ts = graded N (termsOf ts)
 
--- the row begins with the grades of candidate c
+-- the row has all grades of candidate c
 pub record RowFor (N : ℕ) (ts : List ℕ) (c : ℕ) (row : List ℕ) : Type 0 where
   pub long : termCount ts ≤ length row
-  pub grades : (i : ℕ) → i < termCount ts → getD row i 0 ≡ gradeIn (gradingOf N ts) c i
+  pub grades : HasGrades (gradingOf N ts) c row
 
 -- the last of the two individuals that a link claim mentions
 abbrev pub latest : LinkClaim → ℕ

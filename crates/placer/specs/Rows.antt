@@ -1,22 +1,15 @@
--- The rows of grades of the marked candidates in one table: 64 bytes for each candidate.
+-- The rows of grades of the marked candidates in one table: row c is that of candidate c.
 -- Assumes nothing.
-use mathlib.Core.Path.{_≡_}
 use mathlib.Core.List.{List}
-use Prim.Native.Nat.{ℕ, _+_, _*_, _<_}
-use lib.ListN.{getD, take, drop}
-use Rattle.semantics.specs.Candidates.{gradeIn}
-use Rattle.sections.specs.Terms.{termCount}
+use Prim.Native.Nat.{ℕ}
+use Rattle.grades.specs.Rows.{HasGrades, rowAt, EachRow}
 use Rattle.elimination.specs.Marks.{Marked}
 use Rattle.placer.specs.Claims.{gradingOf}
 
--- the part of the table for candidate c
-abbrev pub rowAt : (rows : List ℕ) (c : ℕ) → List ℕ
-rowAt rows c = take 64 (drop (64 * c) rows)
-
--- it has the grades of candidate c
+-- the row of candidate c is in its place
 abbrev pub RowIn : (N : ℕ) (ts rows : List ℕ) (c : ℕ) → Type 0
-RowIn N ts rows c = (i : ℕ) → i < termCount ts → getD rows (64 * c + i) 0 ≡ gradeIn (gradingOf N ts) c i
+RowIn N ts rows c = HasGrades (gradingOf N ts) c (rowAt rows c)
 
 -- so it is for each marked candidate below k
 abbrev pub Rowed : (N : ℕ) (ts marks : List ℕ) (k : ℕ) (rows : List ℕ) → Type 0
-Rowed N ts marks k rows = (c : ℕ) → c < k → Marked marks c → RowIn N ts rows c
+Rowed N ts marks k rows = EachRow (λ c row. Marked marks c → HasGrades (gradingOf N ts) c row) k rows

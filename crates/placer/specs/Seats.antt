@@ -12,11 +12,11 @@ use Rattle.chain.specs.Lists.{from}
 use Rattle.semantics.specs.Links.{link}
 use Rattle.sections.specs.Terms.{termCount, termsOf, TermsRight}
 use Rattle.sections.specs.Claims.{claimCount, linkAt, LinksRight}
-use Rattle.grades.specs.Rows.{RowsAllow}
+use Rattle.grades.specs.Rows.{rowAt, RowsAllow}
 use Rattle.placement.specs.Outcome.{seat}
 use Rattle.placer.specs.Walk.{walk}
 use Rattle.placer.specs.Claims.{gradingOf, latest, LinkMet}
-use Rattle.placer.specs.Rows.{rowAt, RowIn}
+use Rattle.placer.specs.Rows.{RowIn}
 use Rattle.placer.specs.Filter.{Allowed}
 use Rattle.placer.specs.Quantified.{Collected}
 

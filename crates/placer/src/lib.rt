@@ -9,31 +9,21 @@ ghost use Rattle.semantics.specs.Books.{individuals as individualsOf};
 ghost use Rattle.sections.specs.Terms.{termCount, termsOf, TermsRight};
 ghost use Rattle.sections.specs.Claims.{claimCount, membershipAt, MembershipsRight, LinksRight};
 ghost use Rattle.sections.specs.Books.{bookOfSections};
-ghost use Rattle.grades.specs.Rows.{RowsAllow};
+ghost use Rattle.grades.specs.Rows.{rowAt, RowsAllow};
 ghost use Rattle.elimination.specs.Marks.{marked};
 ghost use Rattle.placement.specs.Outcome.{placementAmong};
 ghost use Rattle.placer.specs.Walk.{placed};
 ghost use Rattle.placer.specs.Claims.{gradingOf, RowFor, Alone};
 ghost use Rattle.placer.specs.Filter.{MembershipBy, SelfBy, MembershipsBy, SelvesBy, Filtered, Column, Lacks, Vain};
-ghost use Rattle.placer.specs.Rows.{rowAt, RowIn, Rowed};
+ghost use Rattle.placer.specs.Rows.{Rowed};
 ghost use Rattle.placer.specs.Quantified.{Collected};
 ghost use Rattle.placer.specs.Seats.{walkOf, LinkBy, SeatedRows, Setting};
+use grades::put_row;
+use grades::row_at;
 use sections::claimed;
 use sections::wide;
 
 // ---- the rows of the marked candidates, 64 bytes for each
-
-// Puts the row of candidate `c` into its place.
-fn put_row(terms: &[u8], steps: u8, c: usize, rows: &mut [u8])
-    requires { ⌜ TermsRight (now terms) ⌝ }
-    requires { ⌜ (termCount (now terms) ≤ 64) × (c < 16384) × (1048576 ≤ length (now rows)) ⌝ }
-    ensures { λ _. ⌜ take (64 * c) (now (rows .exit)) ≡ take (64 * c) (now (rows .entry)) ⌝ }
-    ensures { λ _. ⌜ RowIn steps (now (terms .entry)) (now (rows .exit)) c ⌝ }
-{
-    let start = 64 * c;
-    let end = start + 64;
-    grades::fill_row(terms, steps, c, &mut rows[start..end]);
-}
 
 // The rows are worked out once: the search tries a candidate many times.
 fn fill_rows(terms: &[u8], steps: u8, marks: &[u8], count: usize, rows: &mut [u8])
@@ -48,7 +38,7 @@ fn fill_rows(terms: &[u8], steps: u8, marks: &[u8], count: usize, rows: &mut [u8
         if marks[c] != 1 {
             continue;
         }
-        put_row(terms, steps, c, rows);
+        put_row(terms, steps, c, rows, c);
     }
 }
 
@@ -170,38 +160,6 @@ fn allow_row(
     }
 }
 
-// The same, by the rows of all candidates.
-fn allow_candidate(
-    terms: &[u8],
-    steps: u8,
-    memberships: &[u8],
-    links: &[u8],
-    individuals: usize,
-    c: usize,
-    rows: &[u8],
-    table: &mut [u8],
-)
-    requires { ⌜ TermsRight (now terms) ⌝ }
-    requires { ⌜ MembershipsRight (now memberships) steps (termCount (now terms)) ⌝ }
-    requires { ⌜ LinksRight (now links) steps ⌝ }
-    requires { ⌜ RowIn steps (now terms) (now rows) c ⌝ }
-    requires { ⌜ (termCount (now terms) ≤ 64) × (individuals ≤ 8) × (c < 16384) × (1048576 ≤ length (now rows)) × (131072 ≤ length (now table)) ⌝ }
-    ensures { λ _. ⌜ Column steps (now (terms .entry)) (now (memberships .entry)) (now (links .entry)) individuals c (now (table .entry)) (now (table .exit)) ⌝ }
-{
-    let start = 64 * c;
-    let end = start + 64;
-    allow_row(
-        terms,
-        steps,
-        memberships,
-        links,
-        individuals,
-        c,
-        &rows[start..end],
-        table,
-    );
-}
-
 // Fills the table, empty so far: a candidate that is not marked stays out.
 fn fill_table(
     terms: &[u8],
@@ -229,14 +187,14 @@ fn fill_table(
         if marks[c] != 1 {
             continue;
         }
-        allow_candidate(
+        allow_row(
             terms,
             steps,
             memberships,
             links,
             individuals,
             c,
-            rows,
+            row_at(rows, c),
             table,
         );
     }
@@ -351,18 +309,14 @@ fn candidates_allow(
     requires { ⌜ (level ≤ steps) × (termCount (now terms) ≤ 64) × (c < 16384) × (d < 16384) × (1048576 ≤ length (now rows)) ⌝ }
     ensures { λ r. ⌜ Tells r (RowsAllow steps (termsOf (now (terms .entry))) role (rowAt (now (rows .entry)) c) (rowAt (now (rows .entry)) d) level) ⌝ }
 {
-    let first = 64 * c;
-    let first_end = first + 64;
-    let second = 64 * d;
-    let second_end = second + 64;
     quantified_allow(
         terms,
         steps,
         quantified,
         role,
         level,
-        &rows[first..first_end],
-        &rows[second..second_end],
+        row_at(rows, c),
+        row_at(rows, d),
     )
 }
 

@@ -1,16 +1,17 @@
 -- `models::fill_rows` meets its contract. The rows of the types before `e` are filled.
 -- Assumes nothing.
-use mathlib.Core.Path.{_≡_, _∙_}
-use Prim.Native.Nat.{_≤_, _+_, _*_, _-_}
+use mathlib.Core.Path.{_≡_, subst, _∙_}
+use mathlib.Core.List.{List}
+use Prim.Native.Nat.{ℕ, _≤_, _-_}
 use native.Mathlib.Omega.{arith}
-use lib.ListN.{length}
+use lib.ListN.{length, getD}
 use borrow.Author.Count.{below-none}
 use borrow.Author.Needs.{needs}
 use Rattle.semantics.specs.Interpretations.{graded}
 use Rattle.sections.specs.Terms.{termsOf}
+use Rattle.grades.specs.Rows.{HasGrades, rowAt}
+use Rattle.grades.proofs.Rows.{each-row-more}
 use Rattle.models.specs.Rows.{HoldsRows}
-use Rattle.models.proofs.Filling.{length-part}
-use Rattle.models.proofs.Rows.{holds-next}
 use Rattle.models.proofs.fill_rows.Statement.{statement}
 use Rattle.models.proofs.fill_rows.Tie as tie
 
@@ -20,18 +21,8 @@ Inv-loop terms steps types rows₀ e₀ rows e = (e ≤ length types) × (length
 abbrev μ-loop : tie.MeasureT-loop
 μ-loop terms steps types rows₀ e₀ rows e = length types - e
 
--- the row of a turn is within the table
-row-fits : (c : tie.In-loop Inv-loop μ-loop) → 64 * c .before .loop .e + 64 ≤ length (c .before .loop .rows)
-row-fits c = omega (arith, c .loop-test .taken)
-
 loop-holds : tie.Need-loop-holds Inv-loop μ-loop
 loop-holds c = (omega arith, omega arith, below-none _)
-
-mul-start : tie.Need-mul-start Inv-loop μ-loop
-mul-start c = search needs
-
-add-end : tie.Need-add-end Inv-loop μ-loop
-add-end c = search needs
 
 mul-number : tie.Need-mul-number Inv-loop μ-loop
 mul-number c = search needs
@@ -42,20 +33,10 @@ shared-slice-read-number c = search needs
 number-requires : tie.Need-number-requires Inv-loop μ-loop
 number-requires c κs = search needs
 
-sub-fill-row : tie.Need-sub-fill-row Inv-loop μ-loop
-sub-fill-row c = search needs
-
-part-fill-row-start : tie.Need-part-fill-row-start Inv-loop μ-loop
-part-fill-row-start c = search needs
-
-part-fill-row-end : tie.Need-part-fill-row-end Inv-loop μ-loop
-part-fill-row-end c = search needs
-
-fill-row-requires : tie.Need-fill-row-requires Inv-loop μ-loop
-fill-row-requires c κs =
+put-row-requires : tie.Need-put-row-requires Inv-loop μ-loop
+put-row-requires c κs =
     let s = c .before .before .before .before .before .before .before .before in
-    let t = c .before .before .before .before .loop in
-    (s .pre .0, omega (arith, s .pre .1 .0, length-part (t .rows) (64 * t .e) (64 * t .e + 64) (row-fits (c .before .before .before))))
+    (s .pre .0, (s .pre .1 .0, omega (arith, c .before .before .before .loop-test .taken, c .before .before .before .before .loop .inv .1, s .pre .1)))
 
 add-e : tie.Need-add-e Inv-loop μ-loop
 add-e c = search needs
@@ -65,13 +46,15 @@ loop-less c = search needs
 
 loop-again : tie.Need-loop-again Inv-loop μ-loop
 loop-again c =
-    let s = c .before .before .before .before .before .before .before .before .before .before .before in
-    let t = c .before .before .before .before .before .before .before .loop in (
+    let a = c .before .before .before .before .before .before .before .before .before .before .before .args in
+    let t = c .before .before .before .before .before .before .before .loop in
+    let f = c .before .before .put-row in
+    let G = graded (a .steps) (termsOf (a .terms .now)) in
+    let rows = f .last .1 .1 .1 .0 in (
       omega arith,
-      c .before .rows .given .1 ∙ t .inv .1,
-      holds-next (s .args .steps) (s .args .terms .now) (s .args .types .now) (t .e) _ (t .rows) _ _ (s .pre .1 .0)
-          (row-fits (c .before .before .before .before .before .before)) (c .before .before .before .before .number .ensures)
-          (c .before .before .fill-row .ensures) (t .inv .2),
+      f .kept .1 .1 .1 .0 ∙ t .inv .1,
+      each-row-more (λ e. HasGrades G (getD (a .types .now) e 0)) (t .e) (t .rows) rows (f .ensures .0) (t .inv .2)
+          (subst (λ (x : ℕ). HasGrades G x (rowAt rows (t .e))) (c .before .before .before .before .number .ensures) (f .ensures .1)),
     )
 
 same-length : tie.Need-same-length Inv-loop μ-loop
@@ -87,15 +70,10 @@ fill-rows-spec =
     Inv-loop
     μ-loop
     loop-holds
-    mul-start
-    add-end
     mul-number
     shared-slice-read-number
     number-requires
-    sub-fill-row
-    part-fill-row-start
-    part-fill-row-end
-    fill-row-requires
+    put-row-requires
     add-e
     loop-less
     loop-again

@@ -5,23 +5,23 @@ use native.Mathlib.Omega.{arith}
 use borrow.Author.Needs.{needs}
 use Rattle.sections.specs.Terms.{termsOf}
 use Rattle.grades.specs.Rows.{linkOfRows}
-use Rattle.models.proofs.Rows.{length-rowAt}
+use Rattle.grades.proofs.Rows.{length-rowAt}
 use Rattle.models.proofs.link_at.Statement.{statement}
 use Rattle.models.proofs.link_at.Tie as tie
 
-row-of-requires : tie.Need-row-of-requires
-row-of-requires c κs = search needs
+row-at-requires : tie.Need-row-at-requires
+row-at-requires c κs = search needs
 
-row-of-requires-2 : tie.Need-row-of-requires-2
-row-of-requires-2 c κs = search needs
+row-at-requires-2 : tie.Need-row-at-requires-2
+row-at-requires-2 c κs = search needs
 
 link-of-rows-requires : tie.Need-link-of-rows-requires
 link-of-rows-requires c κs =
     let s = c .before .before .before .before in (
       s .pre .0,
       (
-        rw (c .before .row-of .ensures) (omega (arith, length-rowAt (s .args .rows .now) (s .args .e) (s .pre .1 .1) (s .pre .1 .3), s .pre .1 .0)),
-        rw (c .row-of2 .ensures) (omega (arith, length-rowAt (s .args .rows .now) (s .args .f) (s .pre .1 .2) (s .pre .1 .3), s .pre .1 .0)),
+        rw (c .before .row-at .ensures) (omega (arith, length-rowAt (s .args .rows .now) (s .args .e) (omega (arith, s .pre .1)), s .pre .1 .0)),
+        rw (c .row-at2 .ensures) (omega (arith, length-rowAt (s .args .rows .now) (s .args .f) (omega (arith, s .pre .1)), s .pre .1 .0)),
       ),
     )
 
@@ -29,7 +29,7 @@ returns : tie.Need-returns
 returns c =
     let s = c .before .before .before .before .before in
     c .link-of-rows .ensures
-    ∙ ap₂ (linkOfRows (s .args .steps) (termsOf (s .args .terms .now)) (s .args .role)) (c .before .before .row-of .ensures) (c .before .row-of2 .ensures)
+    ∙ ap₂ (linkOfRows (s .args .steps) (termsOf (s .args .terms .now)) (s .args .role)) (c .before .before .row-at .ensures) (c .before .row-at2 .ensures)
 
 pub link-at-spec : {M : Type 1} → statement M
-link-at-spec = tie.close (tie.spec row-of-requires row-of-requires-2 link-of-rows-requires returns)
+link-at-spec = tie.close (tie.spec row-at-requires row-at-requires-2 link-of-rows-requires returns)

@@ -10,7 +10,8 @@ use Rattle.chain.specs.Lists.{table, from}
 use Rattle.sections.specs.Terms.{termsOf}
 use Rattle.models.specs.Rows.{nameIn, namesBy}
 use Rattle.models.proofs.Filling.{length-part, blocks-none, blocks-next, block-fits, whole}
-use Rattle.models.proofs.Rows.{nameRow, length-nameRow, length-rowAt}
+use Rattle.grades.proofs.Rows.{length-rowAt}
+use Rattle.models.proofs.Rows.{nameRow, length-nameRow}
 use Rattle.models.proofs.write_names.Statement.{statement}
 use Rattle.models.proofs.write_names.Tie as tie
 
@@ -44,8 +45,8 @@ mul-start c = omega (arith, block-within c)
 add-end : tie.Need-add-end Inv-loop μ-loop
 add-end c = omega (arith, block-within c)
 
-row-of-requires : tie.Need-row-of-requires Inv-loop μ-loop
-row-of-requires c κs = search needs
+row-at-requires : tie.Need-row-at-requires Inv-loop μ-loop
+row-at-requires c κs = search needs
 
 sub-write-name-row : tie.Need-sub-write-name-row Inv-loop μ-loop
 sub-write-name-row c = omega (arith, block-within (c .before))
@@ -61,7 +62,7 @@ write-name-row-requires c κs =
     let s = c .before .before .before .before .before .before .before in
     let t = c .before .before .before .loop in
     let e : t .e < 64 = omega (arith, c .before .before .loop-test .taken, s .pre .1 .1) in
-    (s .pre .0, rw (c .before .row-of .ensures) (omega (arith, s .pre .1 .0, length-rowAt (s .args .rows .now) (t .e) e (s .pre .1 .2))))
+    (s .pre .0, rw (c .before .row-at .ensures) (omega (arith, s .pre .1 .0, length-rowAt (s .args .rows .now) (t .e) (omega (arith, e, s .pre .1)))))
 
 add-e : tie.Need-add-e Inv-loop μ-loop
 add-e c = search needs
@@ -80,7 +81,7 @@ loop-again c =
           (s .args .body .now) _ (t .inv .2)
           (c .before .before .write-name-row .ensures
           ∙ ap₂ (λ (row : List ℕ) (w : ℕ). table (λ a. nameIn (termsOf (s .args .terms .now)) a row) w)
-          (c .before .before .before .before .row-of .ensures)
+          (c .before .before .before .before .row-at .ensures)
           (length-part (t .body) (t .e * s .args .names) (t .e * s .args .names + s .args .names) (block-within (c .before .before .before .before .before)) ∙ omega arith)),
     )
 
@@ -104,7 +105,7 @@ write-names-spec =
     loop-holds
     mul-start
     add-end
-    row-of-requires
+    row-at-requires
     sub-write-name-row
     part-write-name-row-start
     part-write-name-row-end

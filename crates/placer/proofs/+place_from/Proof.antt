@@ -200,7 +200,7 @@ place-from-loop-again-2 t c =
     let seated : SeatedRows (a .steps) (a .terms .now) (a .rows .now) v (a .k + 1) =
     seated-rows-next (a .steps) (a .terms .now) (a .rows .now) (l .seats) (a .k) (l .next) (omega (arith, l .inv .0, l .inv .2, s .pre .1 .1 .0)) (omega (arith, c .before .before .before .before .before .loop-test .taken, w .candidates-few)) (w .allowed-rows (a .k) (l .next) (l .inv .2) (c .before .before .before .before .before .loop-test .taken) (c .before .before .before .if2 .left))
     (seated-rows-same (a .steps) (a .terms .now) (a .rows .now) (a .seats .now) (l .seats) (a .k) (l .inv .1) (s .pre .1 .1 .1)) in
-    (length-set (l .seats) (a .k) (l .next) ∙ l .inv .0, take-set-le (a .k) (l .seats) (a .k) (l .next) (omega arith) ∙ l .inv .1, l .inv .2, turn-unlinked (a .steps) (a .terms .now) (a .links .now) (a .table .now) (a .count) (a .individuals) (a .k) q (walkOf (a .steps) (a .terms .now) (a .links .now) (a .table .now) (a .count) (a .individuals - a .k) q) (l .next) (l .inv .3) (c .before .before .before .before .before .loop-test .taken) (l .seats) (omega (arith, l .inv .0, l .inv .2, s .pre .1 .1 .0)) (l .inv .1) (w .terms-right) (w .links-right) (w .terms-few) (a .rows .now) seated (told-no _ (c .before .links-met .ensures) (c .if3 .taken)))
+    (length-set (l .seats) (a .k) (l .next) ∙ l .inv .0, take-set-le (a .k) (l .seats) (a .k) (l .next) (omega arith) ∙ l .inv .1, l .inv .2, turn-unlinked (a .steps) (a .terms .now) (a .links .now) (a .table .now) (a .count) (a .individuals) (a .k) q (walkOf (a .steps) (a .terms .now) (a .links .now) (a .table .now) (a .count) (a .individuals - a .k) q) (l .next) (l .inv .3) (c .before .before .before .before .before .loop-test .taken) (l .seats) (omega (arith, l .inv .0, l .inv .2, s .pre .1 .1 .0)) (l .inv .1) (w .terms-right) (w .links-right) (a .rows .now) seated (told-no _ (c .before .links-met .ensures) (c .if3 .taken)))
 
 place-from-add-place-from : (t : ℕ) → place-from-lts.Need-add-place-from (
   links-met-reads.Asked,
@@ -260,7 +260,7 @@ place-from-returns-2 t c =
     (seated-rows-same (a .steps) (a .terms .now) (a .rows .now) (a .seats .now) (l .seats) (a .k) (l .inv .1) (s .pre .1 .1 .1)) in
     let p = c .before .before .before .place-from in
     let u = p .last .1 .1 .1 .1 .1 .1 .1 .1 .0 in
-    (seats-kept (l .seats) u (a .k) (l .next) (p .ensures .0) ∙ l .inv .1, placed-true true (take (a .individuals - a .k) (drop (a .k) u)) refl ∙ turn-found (a .steps) (a .terms .now) (a .links .now) (a .table .now) (a .count) (a .individuals) (a .k) q (walkOf (a .steps) (a .terms .now) (a .links .now) (a .table .now) (a .count) (a .individuals - a .k) q) (l .next) (l .inv .3) (c .before .before .before .before .before .before .before .before .before .before .loop-test .taken) (l .seats) (omega (arith, l .inv .0, l .inv .2, s .pre .1 .1 .0)) (l .inv .1) (w .terms-right) (w .links-right) (w .terms-few) (a .rows .now) seated (c .before .before .before .before .before .before .before .before .if2 .left) (told-yes _ (c .before .before .before .before .before .before .links-met .ensures) (c .before .before .before .before .before .if3 .left)) u (p .kept .1 .1 .1 .1 .1 .1 .1 .1 .0 ∙ length-set (l .seats) (a .k) (l .next)) (p .ensures .0) (l .inv .2) (sym (placed-true (p .result) _ (c .if4 .taken)) ∙ p .ensures .1))
+    (seats-kept (l .seats) u (a .k) (l .next) (p .ensures .0) ∙ l .inv .1, placed-true true (take (a .individuals - a .k) (drop (a .k) u)) refl ∙ turn-found (a .steps) (a .terms .now) (a .links .now) (a .table .now) (a .count) (a .individuals) (a .k) q (walkOf (a .steps) (a .terms .now) (a .links .now) (a .table .now) (a .count) (a .individuals - a .k) q) (l .next) (l .inv .3) (c .before .before .before .before .before .before .before .before .before .before .loop-test .taken) (l .seats) (omega (arith, l .inv .0, l .inv .2, s .pre .1 .1 .0)) (l .inv .1) (w .terms-right) (w .links-right) (a .rows .now) seated (c .before .before .before .before .before .before .before .before .if2 .left) (told-yes _ (c .before .before .before .before .before .before .links-met .ensures) (c .before .before .before .before .before .if3 .left)) u (p .kept .1 .1 .1 .1 .1 .1 .1 .1 .0 ∙ length-set (l .seats) (a .k) (l .next)) (p .ensures .0) (l .inv .2) (sym (placed-true (p .result) _ (c .if4 .taken)) ∙ p .ensures .1))
 
 place-from-loop-less-3 : (t : ℕ) → place-from-lts.Need-loop-less-3 (
   links-met-reads.Asked,
@@ -288,7 +288,7 @@ place-from-loop-again-3 t c =
     (seated-rows-same (a .steps) (a .terms .now) (a .rows .now) (a .seats .now) (l .seats) (a .k) (l .inv .1) (s .pre .1 .1 .1)) in
     let p = c .before .before .before .place-from in
     let u = p .last .1 .1 .1 .1 .1 .1 .1 .1 .0 in
-    (p .kept .1 .1 .1 .1 .1 .1 .1 .1 .0 ∙ length-set (l .seats) (a .k) (l .next) ∙ l .inv .0, seats-kept (l .seats) u (a .k) (l .next) (p .ensures .0) ∙ l .inv .1, l .inv .2, turn-back (a .steps) (a .terms .now) (a .links .now) (a .table .now) (a .count) (a .individuals) (a .k) q (walkOf (a .steps) (a .terms .now) (a .links .now) (a .table .now) (a .count) (a .individuals - a .k) q) (l .next) (l .inv .3) (c .before .before .before .before .before .before .before .before .before .before .loop-test .taken) (l .seats) (omega (arith, l .inv .0, l .inv .2, s .pre .1 .1 .0)) (l .inv .1) (w .terms-right) (w .links-right) (w .terms-few) (a .rows .now) seated (c .before .before .before .before .before .before .before .before .if2 .left) (told-yes _ (c .before .before .before .before .before .before .links-met .ensures) (c .before .before .before .before .before .if3 .left)) (sym (placed-false (p .result) _ (c .if4 .left)) ∙ p .ensures .1))
+    (p .kept .1 .1 .1 .1 .1 .1 .1 .1 .0 ∙ length-set (l .seats) (a .k) (l .next) ∙ l .inv .0, seats-kept (l .seats) u (a .k) (l .next) (p .ensures .0) ∙ l .inv .1, l .inv .2, turn-back (a .steps) (a .terms .now) (a .links .now) (a .table .now) (a .count) (a .individuals) (a .k) q (walkOf (a .steps) (a .terms .now) (a .links .now) (a .table .now) (a .count) (a .individuals - a .k) q) (l .next) (l .inv .3) (c .before .before .before .before .before .before .before .before .before .before .loop-test .taken) (l .seats) (omega (arith, l .inv .0, l .inv .2, s .pre .1 .1 .0)) (l .inv .1) (w .terms-right) (w .links-right) (a .rows .now) seated (c .before .before .before .before .before .before .before .before .if2 .left) (told-yes _ (c .before .before .before .before .before .before .links-met .ensures) (c .before .before .before .before .before .if3 .left)) (sym (placed-false (p .result) _ (c .if4 .left)) ∙ p .ensures .1))
 
 place-from-same-length-2 : (t : ℕ) → place-from-lts.Need-same-length-2 (
   links-met-reads.Asked,

@@ -1,14 +1,22 @@
 -- `placer::fill_rows` meets its contract. The rows of the candidates below `filled` are in the table.
 -- Assumes nothing.
 use mathlib.Core.Path.{_≡_, refl, subst, _∙_}
+use mathlib.Core.List.{List}
 use Prim.Native.Nat.{ℕ, _≤_, _-_}
 use native.Mathlib.Omega.{arith}
 use lib.ListN.{length}
 use borrow.Author.Needs.{needs}
+use Rattle.grades.specs.Rows.{HasGrades}
+use Rattle.grades.proofs.Rows.{each-row-more}
+use Rattle.elimination.specs.Marks.{Marked}
+use Rattle.placer.specs.Claims.{gradingOf}
 use Rattle.placer.specs.Rows.{Rowed}
-use Rattle.placer.proofs.Rows.{rowed-off, rowed-on}
 use Rattle.placer.proofs.fill_rows.Statement.{statement}
 use Rattle.placer.proofs.fill_rows.Tie as tie
+
+-- what the table keeps of a candidate
+abbrev Kept : (N : ℕ) (ts marks : List ℕ) (c : ℕ) (row : List ℕ) → Type 0
+Kept N ts marks c row = Marked marks c → HasGrades (gradingOf N ts) c row
 
 abbrev Inv-loop : tie.InvT-loop
 Inv-loop terms steps marks count rows₀ filled₀ rows filled =
@@ -34,12 +42,12 @@ loop-again c =
     let s = c .before .before .before .before .before .before .before in
     let a = s .args in
     let l = c .before .before .before .loop in
-    (omega arith, l .inv .1, rowed-off (a .steps) (a .terms .now) (a .marks .now) (l .filled) (l .rows) (c .if1 .taken) (l .inv .2))
+    (omega arith, l .inv .1, each-row-more (Kept (a .steps) (a .terms .now) (a .marks .now)) (l .filled) (l .rows) (l .rows) refl (l .inv .2) (λ m. absurd (c .if1 .taken m)))
 
 put-row-requires : tie.Need-put-row-requires Inv-loop μ-loop
 put-row-requires c κs =
     let s = c .before .before .before .before .before .before .before .before in
-    (s .pre .0, (s .pre .1 .0, omega (arith, c .before .before .before .loop-test .taken, s .pre .1), omega (arith, c .before .before .before .before .loop .inv .1, s .pre .1)))
+    (s .pre .0, (s .pre .1 .0, omega (arith, c .before .before .before .loop-test .taken, c .before .before .before .before .loop .inv .1, s .pre .1)))
 
 loop-less-2 : tie.Need-loop-less-2 Inv-loop μ-loop
 loop-less-2 c = search needs
@@ -50,7 +58,7 @@ loop-again-2 c =
     let a = s .args in
     let l = c .before .before .before .before .before .before .before .loop in
     let f = c .before .before .put-row in
-    (omega arith, f .kept .1 .1 .1 .0 ∙ l .inv .1, rowed-on (a .steps) (a .terms .now) (a .marks .now) (l .filled) (l .rows) (f .last .1 .1 .1 .0) (s .pre .1 .0) (f .ensures .0) (f .ensures .1) (l .inv .2))
+    (omega arith, f .kept .1 .1 .1 .0 ∙ l .inv .1, each-row-more (Kept (a .steps) (a .terms .now) (a .marks .now)) (l .filled) (l .rows) (f .last .1 .1 .1 .0) (f .ensures .0) (l .inv .2) (λ _. f .ensures .1))
 
 same-length : tie.Need-same-length Inv-loop μ-loop
 same-length c = c .before .loop .inv .1

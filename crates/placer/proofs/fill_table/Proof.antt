@@ -1,12 +1,14 @@
 -- `placer::fill_table` meets its contract. The candidates below `entered` are entered.
 -- Assumes nothing.
-use mathlib.Core.Path.{_≡_, refl, subst, _∙_}
+use mathlib.Core.Path.{_≡_, refl, sym, subst, _∙_}
+use mathlib.Core.List.{List}
 use Prim.Native.Nat.{ℕ, _≤_, _-_}
 use native.Mathlib.Omega.{arith}
 use lib.ListN.{length}
 use borrow.Author.Needs.{needs}
+use Rattle.placer.specs.Claims.{RowFor}
 use Rattle.placer.specs.Filter.{Filtered}
-use Rattle.placer.proofs.Filter.{filtered-start, filtered-off, filtered-on}
+use Rattle.placer.proofs.Filter.{row-for, filtered-start, filtered-off, filtered-on}
 use Rattle.placer.proofs.fill_table.Statement.{statement}
 use Rattle.placer.proofs.fill_table.Tie as tie
 
@@ -39,23 +41,31 @@ loop-again c =
     let l = c .before .before .before .loop in
     (omega arith, l .inv .1, filtered-off (a .steps) (a .terms .now) (a .memberships .now) (a .links .now) (a .marks .now) (a .individuals) (l .entered) (omega (arith, c .before .before .loop-test .taken, s .pre .1 .1 .1 .0)) (l .table) (c .if1 .taken) (l .inv .2))
 
-allow-candidate-requires : tie.Need-allow-candidate-requires Inv-loop μ-loop
-allow-candidate-requires c κs =
-    let s = c .before .before .before .before .before .before .before .before .before .before .before in
+row-at-requires : tie.Need-row-at-requires Inv-loop μ-loop
+row-at-requires c κs =
+    let s = c .before .before .before .before .before .before .before .before .before .before in
+    omega (arith, c .before .before .loop-test .taken, s .pre .1 .1 .1 .0, s .pre .1 .1 .1 .1 .1)
+
+allow-row-requires : tie.Need-allow-row-requires Inv-loop μ-loop
+allow-row-requires c κs =
+    let s = c .before .before .before .before .before .before .before .before .before .before .before .before in
+    let a = s .args in
     let p = s .pre .1 .1 .1 .0 in
-    let l = c .before .before .before .before .loop in
-    (s .pre .0, (s .pre .1 .0, (s .pre .1 .1 .0, (s .pre .1 .1 .1 .1 .0 (l .entered) (c .before .before .before .loop-test .taken) (c .before .if1 .left), (p .0, p .3, omega (arith, c .before .before .before .loop-test .taken, p), s .pre .1 .1 .1 .1 .1 .0, omega (arith, l .inv .1, s .pre .1 .1 .1 .1 .1 .1))))))
+    let l = c .before .before .before .before .before .loop in
+    let below = c .before .before .before .before .loop-test .taken in
+    let row = row-for (a .steps) (a .terms .now) (a .rows .now) (l .entered) (p .0) (omega (arith, below, p, s .pre .1 .1 .1 .1 .1)) (s .pre .1 .1 .1 .1 .0 (l .entered) below (c .before .before .if1 .left)) in
+    (s .pre .0, (s .pre .1 .0, (s .pre .1 .1 .0, (subst (λ (w : List ℕ). RowFor (a .steps) (a .terms .now) (l .entered) w) (sym (c .before .row-at .ensures)) row, (p .3, omega (arith, below, p), omega (arith, l .inv .1, s .pre .1 .1 .1 .1 .1 .1))))))
 
 loop-less-2 : tie.Need-loop-less-2 Inv-loop μ-loop
 loop-less-2 c = search needs
 
 loop-again-2 : tie.Need-loop-again-2 Inv-loop μ-loop
 loop-again-2 c =
-    let s = c .before .before .before .before .before .before .before .before .before .before .before .before .before .before in
+    let s = c .before .before .before .before .before .before .before .before .before .before .before .before .before .before .before in
     let a = s .args in
-    let l = c .before .before .before .before .before .before .before .loop in
-    let f = c .before .before .allow-candidate in
-    (omega arith, f .kept .1 .1 .1 .1 .1 .1 .1 .0 ∙ l .inv .1, filtered-on (a .steps) (a .terms .now) (a .memberships .now) (a .links .now) (a .marks .now) (a .individuals) (l .entered) (omega (arith, c .before .before .before .before .before .before .loop-test .taken, s .pre .1 .1 .1 .0)) (l .table) (f .last .1 .1 .1 .1 .1 .1 .1 .0) (c .before .before .before .before .if1 .left) (f .ensures) (l .inv .2))
+    let l = c .before .before .before .before .before .before .before .before .loop in
+    let f = c .before .before .allow-row in
+    (omega arith, f .kept .1 .1 .1 .1 .1 .1 .1 .0 ∙ l .inv .1, filtered-on (a .steps) (a .terms .now) (a .memberships .now) (a .links .now) (a .marks .now) (a .individuals) (l .entered) (omega (arith, c .before .before .before .before .before .before .before .loop-test .taken, s .pre .1 .1 .1 .0)) (l .table) (f .last .1 .1 .1 .1 .1 .1 .1 .0) (c .before .before .before .before .before .if1 .left) (f .ensures) (l .inv .2))
 
 same-length : tie.Need-same-length Inv-loop μ-loop
 same-length c = c .before .loop .inv .1
@@ -76,7 +86,8 @@ fill-table-spec =
     shared-slice-read-if1
     loop-less
     loop-again
-    allow-candidate-requires
+    row-at-requires
+    allow-row-requires
     loop-less-2
     loop-again-2
     same-length

@@ -1,11 +1,9 @@
--- `models::row_of` meets its contract.
+-- `grades::row_at` meets its contract.
 -- Assumes nothing.
-use mathlib.Core.Path.{_≡_}
-use Prim.Native.Nat.{_+_, _*_, _-_}
-use native.Mathlib.Omega.{arith}
 use borrow.Author.Needs.{needs}
-use Rattle.models.proofs.row_of.Statement.{statement}
-use Rattle.models.proofs.row_of.Tie as tie
+use Rattle.grades.proofs.Rows.{row-part}
+use Rattle.grades.proofs.row_at.Statement.{statement}
+use Rattle.grades.proofs.row_at.Tie as tie
 
 mul-start : tie.Need-mul-start
 mul-start c = search needs
@@ -23,8 +21,8 @@ part-result-end : tie.Need-part-result-end
 part-result-end c = search needs
 
 returns : tie.Need-returns
-returns c = let e : 64 * c .before .args .e + 64 - 64 * c .before .args .e ≡ 64 = omega arith in rw e
+returns c = row-part (c .before .args .rows .now) (c .before .args .k)
 
-pub row-of-spec : {M : Type 1} → statement M
-row-of-spec =
+pub row-at-spec : {M : Type 1} → statement M
+row-at-spec =
     tie.close (tie.spec mul-start add-end sub-result part-result-start part-result-end returns)
