@@ -8,11 +8,21 @@ use native.Mathlib.Nat.{not-suc-le-zero, add-zero, zero-add, suc-add, add-suc}
 use native.Mathlib.Decide.{ℕ-discrete}
 use native.Mathlib.Numerals.{add-one}
 use native.Mathlib.Omega.{arith}
-use lib.ListN.{length, getD, take, drop, set, length-append, length-drop}
+use lib.ListN.{length, getD, take, drop, set, replicate, length-append, length-drop, length-replicate}
 use lib.Seq.{append-snoc, drop-cons, drop-length, set-at, take-at}
 use Rattle.chain.specs.Search.{First, first, rank}
 use Rattle.chain.specs.Lists.{Mem, Each, highest, table, keep, from, Ascending, index}
 use Rattle.chain.proofs.Search.{below-cases}
+
+-- ---- a list of zeros, as a fresh table is
+
+pub zeros-long : (k : ℕ) → k ≤ length (replicate {A = ℕ} k 0)
+zeros-long k = omega (arith, length-replicate {A = ℕ} k 0)
+
+pub zeros-at : (k i : ℕ) → getD (replicate {A = ℕ} k 0) i 0 ≡ 0
+zeros-at zero i = refl
+zeros-at (suc k) zero = refl
+zeros-at (suc k) (suc i) = zeros-at k i
 
 -- ---- members
 
@@ -75,6 +85,12 @@ module _ {A : Type 0} where
   unfolding table
   each-table P f zero h = tt
   each-table P f (suc n) h = (h zero (omega arith), each-table P (λ i. f (suc i)) n (λ i l. h (suc i) (omega arith)))
+
+  pub table-each : (P : A → Type 0) (f : ℕ → A) (n : ℕ) → Each P (table f n) → (i : ℕ) → i < n → P (f i)
+  unfolding table
+  table-each P f zero h i l = absurd (not-suc-le-zero l)
+  table-each P f (suc n) h zero l = h .0
+  table-each P f (suc n) h (suc i) l = table-each P (λ j. f (suc j)) n (h .1) i (omega arith)
 
   pub table-same : (f g : ℕ → A) (n : ℕ) → ((i : ℕ) → i < n → f i ≡ g i) → table f n ≡ table g n
   unfolding table

@@ -6,7 +6,7 @@ use mathlib.Core.List.{List, [], _∷_}
 use Prim.Native.Nat.{ℕ, zero, suc, _+_, _*_, _≤_, _<_}
 use native.Mathlib.Decide.{decLt}
 use native.Mathlib.Omega.{arith}
-use lib.ListN.{length, getD, replicate, length-replicate, getD-replicate}
+use lib.ListN.{length, getD}
 use Rattle.semantics.specs.Terms.{Term, Ordered}
 use Rattle.semantics.specs.Interpretations.{Grading, graded}
 use Rattle.semantics.specs.Books.{Rule}
@@ -106,11 +106,3 @@ module _ (N : ℕ) (ts : List Term) (o : Ordered ts) (rs : List Rule) (count : �
         Z .counted ∙ marks-number (survivors G rs) after count size same (survivors-ascending G rs),
         marks-of (survivors G rs) after count size same (Z .bits),
       )
-
--- ---- a fresh table
-
-pub zeros-long : (k : ℕ) → k ≤ length (replicate {A = ℕ} k 0)
-zeros-long k = omega (arith, length-replicate {A = ℕ} k 0)
-
-pub zeros-at : (k i : ℕ) → i < k → getD (replicate {A = ℕ} k 0) i 0 ≡ 0
-zeros-at k i h = getD-replicate {A = ℕ} k i 0 0 h

@@ -12,10 +12,9 @@ use lib.ListN.{length, getD, set, take, length-set}
 use lib.Seq.{getD-set-same, getD-set-other, getD-take, length-take-le}
 use borrow.Author.Count.{below-more}
 use Rattle.chain.specs.Search.{rank}
-use Rattle.chain.specs.Lists.{Each, table}
 use Rattle.chain.specs.Connectives.{Quantifier, existential, universal}
 use Rattle.chain.proofs.Search.{rank-yes, rank-no, rank-mono, rank-same}
-use Rattle.chain.proofs.Lists.{each-table}
+use Rattle.chain.proofs.Lists.{each-table, table-each}
 use Rattle.semantics.specs.Terms.{Term, name, not, and, or, some, all, top, bottom, term, Ordered}
 use Rattle.semantics.specs.Quantified.{quantified}
 use Rattle.semantics.specs.Interpretations.{Grading, graded}
@@ -257,12 +256,6 @@ copied-more slots row own o child d c q W ho hd = record {
 
 -- ---- rules
 
-table-at : {A : Type 0} (P : A → Type 0) (f : ℕ → A) (n : ℕ) → Each P (table f n) → (i : ℕ) → i < n → P (f i)
-unfolding table
-table-at P f zero h i l = absurd (not-suc-le-zero l)
-table-at P f (suc n) h zero l = h .0
-table-at P f (suc n) h (suc i) l = table-at P (λ j. f (suc j)) n (h .1) i (omega arith)
-
 -- a candidate's row, at the front of a list
 pub row-front : (G : Grading) (c : ℕ) (row rest : List ℕ) → row ≡ rowOf G c ++ rest → HasGrades G c row
 row-front G c row rest e = subst (HasGrades G c) (sym e) (front-grades G c rest)
@@ -275,7 +268,7 @@ module _ (G : Grading) (t : List ℕ) (ok : RulesRight t (length (G .terms))) (c
     λ h. each-table (λ q. gradeIn G c (q .left) ≤ gradeIn G c (q .right)) (ruleAt t) (ruleCount t)
         (λ i l. rw (← g (ruleAt t i .left) (ok i l .0), ← g (ruleAt t i .right) (ok i l .1)) (h i l)),
     λ h i l. rw (g (ruleAt t i .left) (ok i l .0), g (ruleAt t i .right) (ok i l .1))
-        (table-at (λ q. gradeIn G c (q .left) ≤ gradeIn G c (q .right)) (ruleAt t) (ruleCount t) h i l),
+        (table-each (λ q. gradeIn G c (q .left) ≤ gradeIn G c (q .right)) (ruleAt t) (ruleCount t) h i l),
   )
 
 -- ---- candidates entered

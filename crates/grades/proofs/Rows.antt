@@ -123,8 +123,3 @@ module _ (N : ℕ) (ts : List Term) (o : Ordered ts) (r c d : ℕ) (first second
       linkOfRows-greatest N ts r first second
       ∙ le-antisymm (rows-link (greatest p N) (greatest-le p N) .0 (greatest-passes p (rows-link 0 (omega arith) .1 (omega arith)) N))
       (greatest-most p N (link G r c d) (link-le G r c d) (rows-link (link G r c d) (link-le G r c d) .1 (omega arith)))
-
--- the link of two candidates is that of their rows
-pub linkOfRows-is : (N : ℕ) (ts : List Term) → Ordered ts → (r c d : ℕ)
-    → linkOfRows N ts r (rowOf (graded N ts) c) (rowOf (graded N ts) d) ≡ link (graded N ts) r c d
-linkOfRows-is N ts o r c d = linkOfRows-link N ts o r c d _ _ (row-grades (graded N ts) c) (row-grades (graded N ts) d)

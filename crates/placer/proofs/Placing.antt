@@ -4,13 +4,13 @@ use mathlib.Core.Path.{_≡_, refl, sym, ap, subst, _∙_}
 use mathlib.Core.Bool.{Bool, false}
 use mathlib.Core.Option.{none}
 use mathlib.Core.List.{List, [], _∷_, _++_}
-use Prim.Native.Nat.{ℕ, zero, suc, _-_, _≤_, _<_}
-use native.Mathlib.Nat.{sub-zero, not-suc-le-zero}
+use Prim.Native.Nat.{ℕ, _-_, _≤_, _<_}
+use native.Mathlib.Nat.{sub-zero}
 use native.Mathlib.Omega.{arith}
-use lib.ListN.{length, getD, take, drop, replicate}
+use lib.ListN.{length, take, drop}
 use lib.Seq.{length-take-le}
-use Rattle.chain.specs.Lists.{Mem, Each, table, from}
-use Rattle.chain.proofs.Lists.{each-mem, mem-each, mem-at, at-mem, each-table, highest-at, mem-from, from-mem, ascending-from}
+use Rattle.chain.specs.Lists.{Mem, from}
+use Rattle.chain.proofs.Lists.{each-mem, mem-each, mem-at, at-mem, each-table, table-each, highest-at, mem-from, from-mem, ascending-from}
 use Rattle.semantics.specs.Books.{Book, membershipIndividuals, linkIndividuals, individuals}
 use Rattle.sections.proofs.Claims.{individuals-few}
 use Rattle.sections.specs.Terms.{termCount}
@@ -28,14 +28,6 @@ use Rattle.placer.specs.Filter.{Allowed, Filtered, Vain}
 use Rattle.placer.specs.Seats.{May, may?, walkOf}
 use Rattle.placer.proofs.Walk.{placed-false, finds-map, Follows, walk-finds, follows-at, follows-made}
 use Rattle.placer.proofs.Seats.{seat-front, link-same}
-
--- ---- a table, entry by entry
-
-each-entry : {A : Type 0} (P : A → Type 0) (f : ℕ → A) (n : ℕ) → Each P (table f n) → (i : ℕ) → i < n → P (f i)
-unfolding table
-each-entry P f zero h i l = absurd (not-suc-le-zero l)
-each-entry P f (suc n) h zero l = h .0
-each-entry P f (suc n) h (suc i) l = each-entry P (λ j. f (suc j)) n (h .1) i (omega arith)
 
 module _ (N : ℕ) (ts ms ls : List ℕ) where
   abbrev B : Book
@@ -60,11 +52,11 @@ module _ (N : ℕ) (ts ms ls : List ℕ) where
   module _ (p : List ℕ) where
     member-holds : HoldsAt B p → (i : ℕ) → i < claimCount ms → MembershipMet (gradingOf N ts) (seat p (membershipAt ms i .individual)) (membershipAt ms i)
     unfolding membershipsOf
-    member-holds h = each-entry (HoldsMembership B (seat p)) (membershipAt ms) (claimCount ms) (h .0)
+    member-holds h = table-each (HoldsMembership B (seat p)) (membershipAt ms) (claimCount ms) (h .0)
 
     link-holds : HoldsAt B p → (i : ℕ) → i < claimCount ls → LinkMet (gradingOf N ts) (seat p) (linkAt ls i)
     unfolding linksOf
-    link-holds h = each-entry (HoldsLink B (seat p)) (linkAt ls) (claimCount ls) (h .1)
+    link-holds h = table-each (HoldsLink B (seat p)) (linkAt ls) (claimCount ls) (h .1)
 
     holds-made : ((i : ℕ) → i < claimCount ms → MembershipMet (gradingOf N ts) (seat p (membershipAt ms i .individual)) (membershipAt ms i))
         → ((i : ℕ) → i < claimCount ls → LinkMet (gradingOf N ts) (seat p) (linkAt ls i)) → HoldsAt B p
@@ -170,9 +162,3 @@ module _ (N : ℕ) (ts ms ls marks : List ℕ) (count n : ℕ) (allowed : List �
   vain-placed p v =
       placed-false false p refl
       ∙ vain-placement N ts ms ls marks count allowed small filtered-all (subst (Vain allowed count) e v)
-
--- a list of zeros
-pub zero-at : (n i : ℕ) → _≡_ {A = ℕ} (getD (replicate n 0) i 0) 0
-zero-at zero i = refl
-zero-at (suc n) zero = refl
-zero-at (suc n) (suc i) = zero-at n i

@@ -1,7 +1,7 @@
 -- `eliminator::mark_survivors` meets its contract. The tables are fresh; nothing else is asked of them here, as they are long.
 -- Assumes nothing.
 use borrow.Author.Needs.{needs}
-use Rattle.eliminator.proofs.Ends.{zeros-long, zeros-at}
+use Rattle.chain.proofs.Lists.{zeros-long, zeros-at}
 use Rattle.eliminator.proofs.mark_survivors.Statement.{statement}
 use Rattle.eliminator.proofs.mark_survivors.Tie as tie
 
@@ -17,7 +17,7 @@ slice-aggregate-mark-on-tables-3 c = search needs
 mark-on-tables-requires : tie.Need-mark-on-tables-requires
 mark-on-tables-requires c κs =
     let s = c .before .before .before .before .before .before .before in
-    (s .pre .0, (s .pre .1 .0, (s .pre .1 .1 .0, (s .pre .1 .1 .1, ((zeros-long 262144, zeros-long 262144, zeros-long 262144), zeros-at 262144)))))
+    (s .pre .0, (s .pre .1 .0, (s .pre .1 .1 .0, (s .pre .1 .1 .1, ((zeros-long 262144, zeros-long 262144, zeros-long 262144), λ i _. zeros-at 262144 i)))))
 
 same-length : tie.Need-same-length
 same-length c = search needs

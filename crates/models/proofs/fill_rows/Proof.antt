@@ -1,7 +1,6 @@
 -- `models::fill_rows` meets its contract. The rows of the types before `e` are filled.
 -- Assumes nothing.
 use mathlib.Core.Path.{_≡_, subst, _∙_}
-use mathlib.Core.List.{List}
 use Prim.Native.Nat.{ℕ, _≤_, _-_}
 use native.Mathlib.Omega.{arith}
 use lib.ListN.{length, getD}

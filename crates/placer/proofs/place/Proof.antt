@@ -2,10 +2,9 @@
 -- Assumes nothing.
 use mathlib.Core.Path.{sym}
 use Prim.Native.Nat.{ℕ}
-use native.Mathlib.Nat.{le-of-eq}
 use lib.ListN.{length-replicate}
 use borrow.Author.Needs.{needs}
-use Rattle.placer.proofs.Placing.{zero-at}
+use Rattle.chain.proofs.Lists.{zeros-long, zeros-at}
 use Rattle.placer.proofs.place.Statement.{statement}
 use Rattle.placer.proofs.place.Tie as tie
 
@@ -18,7 +17,7 @@ slice-aggregate-place-in-2 c = sym (length-replicate {A = ℕ} 1048576 0)
 place-in-requires : tie.Need-place-in-requires
 place-in-requires c κs =
     let s = c .before .before .before .before .before .before .before .before in
-    (s .pre .0, (s .pre .1 .0, (s .pre .1 .1 .0, (s .pre .1 .1 .1 .0, (s .pre .1 .1 .1 .1, (le-of-eq (sym (length-replicate {A = ℕ} 131072 0)), zero-at 131072, le-of-eq (sym (length-replicate {A = ℕ} 1048576 0))))))))
+    (s .pre .0, (s .pre .1 .0, (s .pre .1 .1 .0, (s .pre .1 .1 .1 .0, (s .pre .1 .1 .1 .1, (zeros-long 131072, zeros-at 131072, zeros-long 1048576))))))
 
 same-length : tie.Need-same-length
 same-length c = c .before .before .before .before .place-in .kept .1 .1 .1 .1 .1 .1 .1 .1 .1 .0
