@@ -30,7 +30,7 @@ use Rattle.grades.proofs.Rows.{front-grades}
 use Rattle.elimination.specs.Survivors.{Obeys}
 use Rattle.elimination.specs.Marks.{Marked, marked?}
 use Rattle.witnesses.specs.Tables.{slotCount, slotKind, slotRole, slotChild, slotTerm, quantifierOf, cell, SlotsOf}
-use Rattle.eliminator.specs.Filling.{IsQuantified, isQuantified?, quantifiedBefore, IsSlot, Collected, written, RowObeys, Copied, Entered}
+use Rattle.eliminator.specs.Filling.{IsQuantified, isQuantified?, quantifiedBefore, IsSlot, SlotsCollected, written, RowObeys, Copied, Entered}
 
 -- ---- the quantified terms are few
 
@@ -76,9 +76,9 @@ places-few N ts h l = go (places ts) refl
 
 -- ---- collecting
 
-pub collected-none : (ts : List Term) (slots : List ℕ) → Collected ts slots 0 0
+pub slots-none : (ts : List Term) (slots : List ℕ) → SlotsCollected ts slots 0 0
 unfolding quantifiedBefore rank
-collected-none ts slots = record { counted = refl; are = λ q h. absurd (not-suc-le-zero h); onto = λ i h. absurd (not-suc-le-zero h) }
+slots-none ts slots = record { counted = refl; are = λ q h. absurd (not-suc-le-zero h); onto = λ i h. absurd (not-suc-le-zero h) }
 
 -- what slot m is written as, and the slots before it
 module _ (s : List ℕ) (m k r x i : ℕ) where
@@ -117,7 +117,7 @@ same4 : (P : ℕ → ℕ → ℕ → ℕ → Type 0) (a b c d e f g h : ℕ) →
 same4 P a b c d e f g h p q r t x =
     subst (λ (z : ℕ). P e f g z) t (subst (λ (z : ℕ). P e f z d) r (subst (λ (z : ℕ). P e z c d) q (subst (λ (z : ℕ). P z b c d) p x)))
 
-module _ (s slots : List ℕ) (i m : ℕ) (h : i < termCount s) (C : Collected (termsOf s) slots i m) where
+module _ (s slots : List ℕ) (i m : ℕ) (h : i < termCount s) (C : SlotsCollected (termsOf s) slots i m) where
   abbrev ts : List Term
   ts = termsOf s
 
@@ -128,9 +128,9 @@ module _ (s slots : List ℕ) (i m : ℕ) (h : i < termCount s) (C : Collected (
       (λ _ z. z) (λ _ z. z) (λ k _ _ z. z)
 
   -- another term
-  pub collected-other : (kindAt s i < 4) ⊎ (5 < kindAt s i) → Collected ts slots (i + 1) m
+  pub slots-other : (kindAt s i < 4) ⊎ (5 < kindAt s i) → SlotsCollected ts slots (i + 1) m
   unfolding quantifiedBefore
-  collected-other n = record {
+  slots-other n = record {
     counted = C .counted ∙ sym (ap (rank (λ j. isQuantified? (term ts j))) (add-one i) ∙ rank-no (λ j. isQuantified? (term ts j)) i off);
     are = C .are;
     onto = below-more (λ j. (k : Quantifier) (r x : ℕ) → term ts j ≡ quantified k r x → (q : ℕ) × (q < m) × (slotTerm slots q ≡ j)) i (C .onto)
@@ -161,12 +161,12 @@ module _ (s slots : List ℕ) (i m : ℕ) (h : i < termCount s) (C : Collected (
         is existential = tt
         is universal = tt
 
-    pub collected-room : m + 1 ≤ places ts
-    collected-room = omega (arith, C .counted, quantified-places ts (suc i) (rw (length-terms s) h), one-more)
+    pub slots-room : m + 1 ≤ places ts
+    slots-room = omega (arith, C .counted, quantified-places ts (suc i) (rw (length-terms s) h), one-more)
 
-    pub collected-more : (result : List ℕ) → result ≡ written slots m (kindAt s i) (aAt s i) (bAt s i) i → 4 * m + 4 ≤ length slots
-        → Collected ts result (i + 1) (m + 1)
-    collected-more result z l = subst (λ (y : List ℕ). Collected ts y (i + 1) (m + 1)) (sym z) (record {
+    pub slots-more : (result : List ℕ) → result ≡ written slots m (kindAt s i) (aAt s i) (bAt s i) i → 4 * m + 4 ≤ length slots
+        → SlotsCollected ts result (i + 1) (m + 1)
+    slots-more result z l = subst (λ (y : List ℕ). SlotsCollected ts y (i + 1) (m + 1)) (sym z) (record {
       counted = omega (arith, C .counted, ap (quantifiedBefore ts) (add-one i), one-more);
       are = below-more (λ q. IsSlot ts (slotKind after q) (slotRole after q) (slotChild after q) (slotTerm after q)) m
           (λ q g. same4 (IsSlot ts) _ _ _ _ _ _ _ _ (sym (before (4 * q) (omega arith))) (sym (before (4 * q + 1) (omega arith)))
@@ -194,19 +194,19 @@ module _ (s slots : List ℕ) (i m : ℕ) (h : i < termCount s) (C : Collected (
         before = written-before slots m k a b i
 
 -- the slots of all terms are few
-pub collected-few : (N : ℕ) (ts : List Term) (slots : List ℕ) (m : ℕ) → 1 ≤ N → candidates (graded N ts) ≤ 16384 → Collected ts slots (length ts) m → m ≤ 14
-collected-few N ts slots m h l C = omega (arith, places-few N ts h l, C .counted, quantified-places ts (length ts) (omega arith))
+pub slots-few : (N : ℕ) (ts : List Term) (slots : List ℕ) (m : ℕ) → 1 ≤ N → candidates (graded N ts) ≤ 16384 → SlotsCollected ts slots (length ts) m → m ≤ 14
+slots-few N ts slots m h l C = omega (arith, places-few N ts h l, C .counted, quantified-places ts (length ts) (omega arith))
 
 -- the part that is written holds the slots of all terms
-module _ (ts : List Term) (slots : List ℕ) (m : ℕ) (C : Collected ts slots (length ts) m) (room : 4 * m ≤ length slots) where
+module _ (ts : List Term) (slots : List ℕ) (m : ℕ) (C : SlotsCollected ts slots (length ts) m) (room : 4 * m ≤ length slots) where
   part-count : slotCount (take (4 * m) slots) ≡ m
   part-count = omega (arith, length-take-le (4 * m) slots room)
 
   part-at : (j : ℕ) → j < 4 * m → getD (take (4 * m) slots) j 0 ≡ getD slots j 0
   part-at j h = getD-take (4 * m) slots j 0 h
 
-  pub collected-slots : SlotsOf ts (take (4 * m) slots)
-  collected-slots = record {
+  pub slots-of : SlotsOf ts (take (4 * m) slots)
+  slots-of = record {
     kinds = λ q h. let u = slot q (omega (arith, part-count)) in (u .0, u .1);
     terms = λ q h. slot q (omega (arith, part-count)) .2;
     are = λ q h. slot q (omega (arith, part-count)) .3;

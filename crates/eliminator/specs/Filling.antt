@@ -49,7 +49,7 @@ abbrev pub IsSlot : List Term → (k r x i : ℕ) → Type 0
 IsSlot ts k r x i = (4 ≤ k) × (k ≤ 5) × (i < length ts) × (term ts i ≡ quantified (quantifierOf k) r x)
 
 -- the first m slots are the quantified terms before term b
-pub record Collected (ts : List Term) (slots : List ℕ) (b m : ℕ) : Type 0 where
+pub record SlotsCollected (ts : List Term) (slots : List ℕ) (b m : ℕ) : Type 0 where
   pub counted : m ≡ quantifiedBefore ts b
   pub are : (q : ℕ) → q < m → IsSlot ts (slotKind slots q) (slotRole slots q) (slotChild slots q) (slotTerm slots q)
   pub onto : (i : ℕ) → i < b → (k : Quantifier) (r x : ℕ) → term ts i ≡ quantified k r x → (q : ℕ) × (q < m) × (slotTerm slots q ≡ i)

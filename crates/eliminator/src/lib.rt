@@ -11,7 +11,7 @@ ghost use Rattle.sections.specs.Rules.{rulesOf, RulesRight};
 ghost use Rattle.elimination.specs.Survivors.{survivors};
 ghost use Rattle.elimination.specs.Marks.{marksOf};
 ghost use Rattle.witnesses.specs.Tables.{slotCount, slotChild, slotTerm, tables, Ready, SlotsOf};
-ghost use Rattle.eliminator.specs.Filling.{Collected, written, RowObeys, Copied, Entered};
+ghost use Rattle.eliminator.specs.Filling.{SlotsCollected, written, RowObeys, Copied, Entered};
 use grades::fill_row;
 use sweeps::settle;
 
@@ -30,8 +30,8 @@ fn write_slot(slots: &mut [u8], m: usize, kind: u8, role: u8, child: u8, term: u
 // Writes term `i` as slot `m` where it is quantified. The number of slots.
 fn put_slot(terms: &[u8], slots: &mut [u8], i: usize, m: usize) -> usize
     requires { ⌜ (i < termCount (now terms)) × (termCount (now terms) ≤ 64) × (64 ≤ length (now slots)) × (places (termsOf (now terms)) ≤ 14) ⌝ }
-    requires { ⌜ Collected (termsOf (now terms)) (now slots) i m ⌝ }
-    ensures { λ r. ⌜ Collected (termsOf (now (terms .entry))) (now (slots .exit)) (i + 1) r ⌝ }
+    requires { ⌜ SlotsCollected (termsOf (now terms)) (now slots) i m ⌝ }
+    ensures { λ r. ⌜ SlotsCollected (termsOf (now (terms .entry))) (now (slots .exit)) (i + 1) r ⌝ }
 {
     let kind = terms[3 * i];
     if kind < 4 {
@@ -47,7 +47,7 @@ fn put_slot(terms: &[u8], slots: &mut [u8], i: usize, m: usize) -> usize
 // Writes the quantified terms as slots. Their number.
 fn collect(terms: &[u8], slots: &mut [u8]) -> usize
     requires { ⌜ (termCount (now terms) ≤ 64) × (64 ≤ length (now slots)) × (places (termsOf (now terms)) ≤ 14) ⌝ }
-    ensures { λ r. ⌜ Collected (termsOf (now (terms .entry))) (now (slots .exit)) (length (termsOf (now (terms .entry)))) r ⌝ }
+    ensures { λ r. ⌜ SlotsCollected (termsOf (now (terms .entry))) (now (slots .exit)) (length (termsOf (now (terms .entry)))) r ⌝ }
 {
     let count = terms.len() / 3;
     let mut m = 0;

@@ -11,7 +11,7 @@ abbrev pub Quantified : (ts : List ℕ) (i : ℕ) → Type 0
 Quantified ts i = (4 ≤ kindAt ts i) × (kindAt ts i ≤ 5)
 
 -- of the terms below k, the first m entries have the number of each quantified one; all of them are numbers of terms
-pub record Collected (ts list : List ℕ) (k m : ℕ) : Type 0 where
+pub record NumbersCollected (ts list : List ℕ) (k m : ℕ) : Type 0 where
   pub fits : m ≤ k
   pub numbers : (x : ℕ) → x < m → getD list x 0 < termCount ts
   pub each : (i : ℕ) → i < k → Quantified ts i → (x : ℕ) × (x < m) × (getD list x 0 ≡ i)

@@ -18,7 +18,7 @@ use Rattle.placer.specs.Walk.{walk}
 use Rattle.placer.specs.Claims.{gradingOf, latest, LinkMet}
 use Rattle.placer.specs.Rows.{RowIn}
 use Rattle.placer.specs.Filter.{Allowed}
-use Rattle.placer.specs.Quantified.{Collected}
+use Rattle.placer.specs.Quantified.{NumbersCollected}
 
 module _ (N : ℕ) (ts ls table : List ℕ) where
   -- the individual after those seated by q may have candidate c, and every link claim whose last individual it is is met
@@ -60,7 +60,7 @@ SeatedRows N ts rows seats k = (j : ℕ) → j < k → (seat seats j < 16384) ×
 
 pub record Setting (N : ℕ) (ts quantified ls : List ℕ) (count n : ℕ) (table rows : List ℕ) : Type 0 where
   pub terms-right : TermsRight ts
-  pub collected : Collected ts quantified (termCount ts) (length quantified)
+  pub collected : NumbersCollected ts quantified (termCount ts) (length quantified)
   pub links-right : LinksRight ls N
   pub terms-few : termCount ts ≤ 64
   pub candidates-few : count ≤ 16384

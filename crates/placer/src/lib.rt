@@ -16,7 +16,7 @@ ghost use Rattle.placer.specs.Walk.{placed};
 ghost use Rattle.placer.specs.Claims.{gradingOf, RowFor, Alone};
 ghost use Rattle.placer.specs.Filter.{MembershipBy, SelfBy, MembershipsBy, SelvesBy, Filtered, Column, Lacks, Vain};
 ghost use Rattle.placer.specs.Rows.{Rowed};
-ghost use Rattle.placer.specs.Quantified.{Collected};
+ghost use Rattle.placer.specs.Quantified.{NumbersCollected};
 ghost use Rattle.placer.specs.Seats.{walkOf, LinkBy, SeatedRows, Setting};
 use grades::put_row;
 use grades::row_at;
@@ -235,8 +235,8 @@ fn in_vain(table: &[u8], count: usize, individuals: usize) -> bool
 // Writes the number of term `i` as entry `m` where the term is quantified. The number of entries.
 fn put_quantified(terms: &[u8], quantified: &mut [u8], i: usize, m: usize) -> usize
     requires { ⌜ (i < termCount (now terms)) × (termCount (now terms) ≤ 64) × (64 ≤ length (now quantified)) ⌝ }
-    requires { ⌜ Collected (now terms) (now quantified) i m ⌝ }
-    ensures { λ r. ⌜ Collected (now (terms .entry)) (now (quantified .exit)) (i + 1) r ⌝ }
+    requires { ⌜ NumbersCollected (now terms) (now quantified) i m ⌝ }
+    ensures { λ r. ⌜ NumbersCollected (now (terms .entry)) (now (quantified .exit)) (i + 1) r ⌝ }
 {
     let kind = terms[3 * i];
     if kind < 4 {
@@ -252,7 +252,7 @@ fn put_quantified(terms: &[u8], quantified: &mut [u8], i: usize, m: usize) -> us
 // Writes the numbers of the quantified terms. How many they are.
 fn collect(terms: &[u8], quantified: &mut [u8]) -> usize
     requires { ⌜ (termCount (now terms) ≤ 64) × (64 ≤ length (now quantified)) ⌝ }
-    ensures { λ r. ⌜ Collected (now (terms .entry)) (now (quantified .exit)) (termCount (now (terms .entry))) r ⌝ }
+    ensures { λ r. ⌜ NumbersCollected (now (terms .entry)) (now (quantified .exit)) (termCount (now (terms .entry))) r ⌝ }
 {
     let count = terms.len() / 3;
     let mut m = 0;
@@ -275,7 +275,7 @@ fn quantified_allow(
     second: &[u8],
 ) -> bool
     requires { ⌜ TermsRight (now terms) ⌝ }
-    requires { ⌜ Collected (now terms) (now quantified) (termCount (now terms)) (length (now quantified)) ⌝ }
+    requires { ⌜ NumbersCollected (now terms) (now quantified) (termCount (now terms)) (length (now quantified)) ⌝ }
     requires { ⌜ (level ≤ steps) × (termCount (now terms) ≤ length (now first)) × (termCount (now terms) ≤ length (now second)) ⌝ }
     ensures { λ r. ⌜ Tells r (RowsAllow steps (termsOf (now (terms .entry))) role (now (first .entry)) (now (second .entry)) level) ⌝ }
 {
@@ -305,7 +305,7 @@ fn candidates_allow(
     d: usize,
 ) -> bool
     requires { ⌜ TermsRight (now terms) ⌝ }
-    requires { ⌜ Collected (now terms) (now quantified) (termCount (now terms)) (length (now quantified)) ⌝ }
+    requires { ⌜ NumbersCollected (now terms) (now quantified) (termCount (now terms)) (length (now quantified)) ⌝ }
     requires { ⌜ (level ≤ steps) × (termCount (now terms) ≤ 64) × (c < 16384) × (d < 16384) × (1048576 ≤ length (now rows)) ⌝ }
     ensures { λ r. ⌜ Tells r (RowsAllow steps (termsOf (now (terms .entry))) role (rowAt (now (rows .entry)) c) (rowAt (now (rows .entry)) d) level) ⌝ }
 {
@@ -332,7 +332,7 @@ fn link_met(
     k: usize,
 ) -> bool
     requires { ⌜ TermsRight (now terms) ⌝ }
-    requires { ⌜ Collected (now terms) (now quantified) (termCount (now terms)) (length (now quantified)) ⌝ }
+    requires { ⌜ NumbersCollected (now terms) (now quantified) (termCount (now terms)) (length (now quantified)) ⌝ }
     requires { ⌜ LinksRight (now links) steps ⌝ }
     requires { ⌜ (i < claimCount (now links)) × (termCount (now terms) ≤ 64) × (1048576 ≤ length (now rows)) ⌝ }
     requires { ⌜ (k < length (now seats)) × ((j : ℕ) → j ≤ k → getD (now seats) j 0 < 16384) ⌝ }
@@ -368,7 +368,7 @@ fn links_met(
     k: usize,
 ) -> bool
     requires { ⌜ TermsRight (now terms) ⌝ }
-    requires { ⌜ Collected (now terms) (now quantified) (termCount (now terms)) (length (now quantified)) ⌝ }
+    requires { ⌜ NumbersCollected (now terms) (now quantified) (termCount (now terms)) (length (now quantified)) ⌝ }
     requires { ⌜ LinksRight (now links) steps ⌝ }
     requires { ⌜ (termCount (now terms) ≤ 64) × (1048576 ≤ length (now rows)) ⌝ }
     requires { ⌜ (k < length (now seats)) × ((j : ℕ) → j ≤ k → getD (now seats) j 0 < 16384) ⌝ }
@@ -452,7 +452,7 @@ fn place_by(
     seats: &mut [u16],
 ) -> bool
     requires { ⌜ TermsRight (now terms) ⌝ }
-    requires { ⌜ Collected (now terms) (now quantified) (termCount (now terms)) (length (now quantified)) ⌝ }
+    requires { ⌜ NumbersCollected (now terms) (now quantified) (termCount (now terms)) (length (now quantified)) ⌝ }
     requires { ⌜ MembershipsRight (now memberships) steps (termCount (now terms)) ⌝ }
     requires { ⌜ LinksRight (now links) steps ⌝ }
     requires { ⌜ termCount (now terms) ≤ 64 ⌝ }

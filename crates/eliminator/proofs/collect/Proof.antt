@@ -7,14 +7,14 @@ use lib.ListN.{length}
 use borrow.Author.Needs.{needs}
 use Rattle.sections.specs.Terms.{termCount, termsOf}
 use Rattle.sections.proofs.Terms.{length-terms}
-use Rattle.eliminator.specs.Filling.{Collected}
-use Rattle.eliminator.proofs.Filling.{collected-none}
+use Rattle.eliminator.specs.Filling.{SlotsCollected}
+use Rattle.eliminator.proofs.Filling.{slots-none}
 use Rattle.eliminator.proofs.collect.Statement.{statement}
 use Rattle.eliminator.proofs.collect.Tie as tie
 
 abbrev Inv-loop : tie.InvT-loop
 Inv-loop terms slots₀ count m₀ i₀ slots m i =
-    (i ≤ termCount terms) × (length slots ≡ length slots₀) × Collected (termsOf terms) slots i m
+    (i ≤ termCount terms) × (length slots ≡ length slots₀) × SlotsCollected (termsOf terms) slots i m
 
 abbrev μ-loop : tie.MeasureT-loop
 μ-loop terms slots₀ count m₀ i₀ slots m i =
@@ -23,7 +23,7 @@ abbrev μ-loop : tie.MeasureT-loop
 loop-holds : tie.Need-loop-holds Inv-loop μ-loop
 loop-holds c =
     let s = c .before .before in
-    (omega arith, refl, collected-none (termsOf (s .args .terms .now)) (s .args .slots .now))
+    (omega arith, refl, slots-none (termsOf (s .args .terms .now)) (s .args .slots .now))
 
 put-slot-requires : tie.Need-put-slot-requires Inv-loop μ-loop
 put-slot-requires c κs =
@@ -48,7 +48,7 @@ returns c =
     let s = c .before .before .before .before in
     let l = c .before .loop in
     let e : l .i ≡ length (termsOf (s .args .terms .now)) = omega (arith, length-terms (s .args .terms .now)) in
-    subst (λ (b : ℕ). Collected (termsOf (s .args .terms .now)) (l .slots) b (l .m)) e (l .inv .2)
+    subst (λ (b : ℕ). SlotsCollected (termsOf (s .args .terms .now)) (l .slots) b (l .m)) e (l .inv .2)
 
 pub collect-spec : {M : Type 1} → statement M
 collect-spec =

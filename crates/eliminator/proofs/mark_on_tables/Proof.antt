@@ -8,7 +8,7 @@ use borrow.Author.Needs.{needs}
 use Rattle.semantics.specs.Interpretations.{graded}
 use Rattle.semantics.specs.Candidates.{candidates}
 use Rattle.sections.specs.Terms.{termsOf}
-use Rattle.eliminator.proofs.Filling.{places-few, collected-few, collected-slots}
+use Rattle.eliminator.proofs.Filling.{places-few, slots-few, slots-of}
 use Rattle.eliminator.proofs.mark_on_tables.Statement.{statement}
 use Rattle.eliminator.proofs.mark_on_tables.Tie as tie
 
@@ -28,7 +28,7 @@ mul-slots c =
     let p = s .pre .1 .1 .0 in
     let n : candidates (graded (s .args .steps) (termsOf (s .args .terms .now))) ≤ 16384 = omega (arith, s .pre .1 .1 .1 .0) in
     let v = c .before .collect in
-    let m = collected-few (s .args .steps) (termsOf (s .args .terms .now)) _ (v .result) (p .0) n (v .ensures) in
+    let m = slots-few (s .args .steps) (termsOf (s .args .terms .now)) _ (v .result) (p .0) n (v .ensures) in
     omega arith
 
 array-share-prefix-slots : tie.Need-array-share-prefix-slots
@@ -37,7 +37,7 @@ array-share-prefix-slots c =
     let p = s .pre .1 .1 .0 in
     let n : candidates (graded (s .args .steps) (termsOf (s .args .terms .now))) ≤ 16384 = omega (arith, s .pre .1 .1 .1 .0) in
     let v = c .before .collect in
-    let m = collected-few (s .args .steps) (termsOf (s .args .terms .now)) _ (v .result) (p .0) n (v .ensures) in
+    let m = slots-few (s .args .steps) (termsOf (s .args .terms .now)) _ (v .result) (p .0) n (v .ensures) in
     omega (arith, v .kept)
 
 slice-aggregate-mark-by-slots : tie.Need-slice-aggregate-mark-by-slots
@@ -46,7 +46,7 @@ slice-aggregate-mark-by-slots c =
     let p = s .pre .1 .1 .0 in
     let n : candidates (graded (s .args .steps) (termsOf (s .args .terms .now))) ≤ 16384 = omega (arith, s .pre .1 .1 .1 .0) in
     let v = c .before .before .collect in
-    let m = collected-few (s .args .steps) (termsOf (s .args .terms .now)) _ (v .result) (p .0) n (v .ensures) in
+    let m = slots-few (s .args .steps) (termsOf (s .args .terms .now)) _ (v .result) (p .0) n (v .ensures) in
     sym (length-take-le (4 * v .result) _ (omega (arith, v .kept)))
 
 mark-by-slots-requires : tie.Need-mark-by-slots-requires
@@ -55,9 +55,9 @@ mark-by-slots-requires c κs =
     let p = s .pre .1 .1 .0 in
     let n : candidates (graded (s .args .steps) (termsOf (s .args .terms .now))) ≤ 16384 = omega (arith, s .pre .1 .1 .1 .0) in
     let v = c .before .before .before .before .before .before .collect in
-    let m = collected-few (s .args .steps) (termsOf (s .args .terms .now)) _ (v .result) (p .0) n (v .ensures) in
+    let m = slots-few (s .args .steps) (termsOf (s .args .terms .now)) _ (v .result) (p .0) n (v .ensures) in
     let l = length-take-le (4 * v .result) (v .last .1 .0) (omega (arith, v .kept)) in
-    (s .pre .0, (s .pre .1 .0, ((p .1, omega arith, p .2), (s .pre .1 .1 .1 .0, (collected-slots (termsOf (s .args .terms .now)) _ (v .result) (v .ensures) (omega (arith, v .kept)), s .pre .1 .1 .1 .1)))))
+    (s .pre .0, (s .pre .1 .0, ((p .1, omega arith, p .2), (s .pre .1 .1 .1 .0, (slots-of (termsOf (s .args .terms .now)) _ (v .result) (v .ensures) (omega (arith, v .kept)), s .pre .1 .1 .1 .1)))))
 
 same-length : tie.Need-same-length
 same-length c = search needs

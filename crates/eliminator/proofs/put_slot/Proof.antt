@@ -5,7 +5,7 @@ use Prim.Native.Nat.{_≤_}
 use native.Mathlib.Omega.{arith}
 use borrow.Author.Needs.{needs}
 use Rattle.sections.specs.Terms.{kindAt}
-use Rattle.eliminator.proofs.Filling.{collected-other, collected-room, collected-more}
+use Rattle.eliminator.proofs.Filling.{slots-other, slots-room, slots-more}
 use Rattle.eliminator.proofs.put_slot.Statement.{statement}
 use Rattle.eliminator.proofs.put_slot.Tie as tie
 
@@ -18,12 +18,12 @@ shared-slice-read-kind c = search needs
 returns : tie.Need-returns
 returns c =
     let s = c .before .before .before .before in
-    collected-other (s .args .terms .now) (s .args .slots .now) (s .args .i) (s .args .m) (s .pre .0 .0) (s .pre .1) (inl (omega arith))
+    slots-other (s .args .terms .now) (s .args .slots .now) (s .args .i) (s .args .m) (s .pre .0 .0) (s .pre .1) (inl (omega arith))
 
 returns-2 : tie.Need-returns-2
 returns-2 c =
     let s = c .before .before .before .before .before in
-    collected-other (s .args .terms .now) (s .args .slots .now) (s .args .i) (s .args .m) (s .pre .0 .0) (s .pre .1) (inr (omega arith))
+    slots-other (s .args .terms .now) (s .args .slots .now) (s .args .i) (s .args .m) (s .pre .0 .0) (s .pre .1) (inr (omega arith))
 
 mul-write-slot : tie.Need-mul-write-slot
 mul-write-slot c = search needs
@@ -50,13 +50,13 @@ write-slot-requires : tie.Need-write-slot-requires
 write-slot-requires c κs =
     let s = c .before .before .before .before .before .before .before .before in
     let p = s .pre .0 in
-    omega (arith, collected-room (s .args .terms .now) (s .args .slots .now) (s .args .i) (s .args .m) (s .pre .0 .0) (s .pre .1) (omega arith))
+    omega (arith, slots-room (s .args .terms .now) (s .args .slots .now) (s .args .i) (s .args .m) (s .pre .0 .0) (s .pre .1) (omega arith))
 
 add-result : tie.Need-add-result
 add-result c =
     let s = c .before .before .before .before .before .before .before .before .before .before .before in
     let p = s .pre .0 in
-    omega (arith, collected-room (s .args .terms .now) (s .args .slots .now) (s .args .i) (s .args .m) (s .pre .0 .0) (s .pre .1) (omega arith))
+    omega (arith, slots-room (s .args .terms .now) (s .args .slots .now) (s .args .i) (s .args .m) (s .pre .0 .0) (s .pre .1) (omega arith))
 
 same-length : tie.Need-same-length
 same-length c = search needs
@@ -66,7 +66,7 @@ returns-3 c =
     let s = c .before .before .before .before .before .before .before .before .before .before .before in
     let k : (4 ≤ kindAt (s .args .terms .now) (s .args .i)) × (kindAt (s .args .terms .now) (s .args .i) ≤ 5) = omega arith in
     let p = s .pre .0 in
-    collected-more (s .args .terms .now) (s .args .slots .now) (s .args .i) (s .args .m) (s .pre .0 .0) (s .pre .1) k _ (c .before .before .write-slot .ensures) (omega (arith, collected-room (s .args .terms .now) (s .args .slots .now) (s .args .i) (s .args .m) (s .pre .0 .0) (s .pre .1) k))
+    slots-more (s .args .terms .now) (s .args .slots .now) (s .args .i) (s .args .m) (s .pre .0 .0) (s .pre .1) k _ (c .before .before .write-slot .ensures) (omega (arith, slots-room (s .args .terms .now) (s .args .slots .now) (s .args .i) (s .args .m) (s .pre .0 .0) (s .pre .1) k))
 
 pub put-slot-spec : {M : Type 1} → statement M
 put-slot-spec =

@@ -4,7 +4,7 @@ use mathlib.Core.Path.{sym}
 use native.Mathlib.Omega.{arith}
 use lib.Seq.{length-take-le}
 use borrow.Author.Needs.{needs}
-use Rattle.placer.proofs.Quantified.{collected-part}
+use Rattle.placer.proofs.Quantified.{numbers-part}
 use Rattle.placer.proofs.place_in.Statement.{statement}
 use Rattle.placer.proofs.place_in.Tie as tie
 
@@ -24,7 +24,7 @@ place-by-requires : tie.Need-place-by-requires
 place-by-requires c κs =
     let s = c .before .before .before .before .before .before .before .before .before .before .before .before .before .before in
     let v = c .before .before .before .before .before .collect in
-    (s .pre .0, (collected-part (s .args .terms .now) _ _ (v .result) (v .ensures) (omega (arith, v .kept, v .ensures .fits, s .pre .1 .1 .1 .0)), s .pre .1))
+    (s .pre .0, (numbers-part (s .args .terms .now) _ _ (v .result) (v .ensures) (omega (arith, v .kept, v .ensures .fits, s .pre .1 .1 .1 .0)), s .pre .1))
 
 same-length : tie.Need-same-length
 same-length c = search needs

@@ -2,7 +2,7 @@
 -- Assumes nothing.
 use native.Mathlib.Omega.{arith}
 use borrow.Author.Needs.{needs}
-use Rattle.placer.proofs.Quantified.{collected-off, collected-on}
+use Rattle.placer.proofs.Quantified.{numbers-off, numbers-on}
 use Rattle.placer.proofs.put_quantified.Statement.{statement}
 use Rattle.placer.proofs.put_quantified.Tie as tie
 
@@ -13,10 +13,10 @@ shared-slice-read-kind : tie.Need-shared-slice-read-kind
 shared-slice-read-kind c = search needs
 
 returns : tie.Need-returns
-returns c = let s = c .before .before in collected-off (s .args .terms .now) (s .args .quantified .now) (s .args .i) (s .args .m) (s .pre .1) (λ q. omega (arith, q, c .if1 .taken))
+returns c = let s = c .before .before in numbers-off (s .args .terms .now) (s .args .quantified .now) (s .args .i) (s .args .m) (s .pre .1) (λ q. omega (arith, q, c .if1 .taken))
 
 returns-2 : tie.Need-returns-2
-returns-2 c = let s = c .before .before .before in collected-off (s .args .terms .now) (s .args .quantified .now) (s .args .i) (s .args .m) (s .pre .1) (λ q. omega (arith, q, c .if2 .taken))
+returns-2 c = let s = c .before .before .before in numbers-off (s .args .terms .now) (s .args .quantified .now) (s .args .i) (s .args .m) (s .pre .1) (λ q. omega (arith, q, c .if2 .taken))
 
 cast-quantified : tie.Need-cast-quantified
 cast-quantified c = search needs
@@ -31,7 +31,7 @@ same-length : tie.Need-same-length
 same-length c = search needs
 
 returns-3 : tie.Need-returns-3
-returns-3 c = let s = c .before .before .before in collected-on (s .args .terms .now) (s .args .quantified .now) (s .args .i) (s .args .m) (s .pre .1) (s .pre .0 .0) (omega (arith, s .pre .1 .fits, s .pre .0))
+returns-3 c = let s = c .before .before .before in numbers-on (s .args .terms .now) (s .args .quantified .now) (s .args .i) (s .args .m) (s .pre .1) (s .pre .0 .0) (omega (arith, s .pre .1 .fits, s .pre .0))
 
 pub put-quantified-spec : {M : Type 1} → statement M
 put-quantified-spec =
