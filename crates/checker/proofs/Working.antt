@@ -37,7 +37,8 @@ use Rattle.grids.specs.Workable.{Workable}
 use Rattle.grids.proofs.Columns.{rows-grid}
 use Rattle.verdicts.specs.Cells.{verdictIn, Covered}
 use Rattle.verdicts.proofs.Cells.{verdict-in, covered}
-use Rattle.checker.specs.Working.{Filled, gridSize, bookSheetQuestions, SheetFits, workQuestions, worked, workedOf, gridBy, gridAfter, workedNumber}
+use Rattle.checker.specs.Fitting.{SheetFits, Filled}
+use Rattle.checker.specs.Working.{gridSize, bookSheetQuestions, workQuestions, worked, workedOf, gridBy, gridAfter, workedNumber}
 use Rattle.checker.specs.declared.Worked.the-variants.{Refused, Says}
 
 -- ---- the first no

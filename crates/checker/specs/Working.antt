@@ -7,24 +7,15 @@ use native.Mathlib.Decide.{decLe}
 use lib.ListN.{length, drop}
 use Rattle.chain.specs.Questions.{Question, ask, firstNo}
 use Rattle.semantics.specs.Books.{nameCount, roleCount, individuals}
-use Rattle.book.specs.Reading.{bookAt, bookOf}
-use Rattle.book.specs.declared.Sections.{Sections}
+use Rattle.book.specs.Reading.{bookOf}
 use Rattle.book.specs.Opening.{bookQuestions}
-use Rattle.sheets.specs.Layout.{shapeOf, nameBytes, linkBytes}
-use Rattle.sheets.specs.Reading.{interpretation, sheetOf}
+use Rattle.sheets.specs.Layout.{shapeOf}
+use Rattle.sheets.specs.Reading.{sheetOf}
 use Rattle.sheets.specs.Grids.{gridOf}
-use Rattle.grids.specs.Columns.{HoldsGrades}
-use Rattle.sheets.specs.Opening.{sheetQuestions, SheetRight}
+use Rattle.sheets.specs.Opening.{sheetQuestions}
 use Rattle.sheets.specs.Working.{verdictOf}
-use Rattle.sheets.specs.declared.Shape.{Shape}
 use Rattle.checker.specs.declared.Worked.{Worked}
 use Rattle.checker.specs.declared.Worked.the-variants.{Refused, Says}
-
--- the columns v hold the grades of the book whose sections stand in b at s, on the sheet that stands in t by the shape p; no grade looks at the
--- individuals
-abbrev pub Filled : (b : List ℕ) (s : Sections) (t : List ℕ) (p : Shape) (v : List ℕ) → Type 0
-Filled b s t p v =
-    (js : List ℕ) → HoldsGrades (bookAt b s .grading) (interpretation (p .elements) (p .names) (nameBytes t p) (linkBytes t p) js) v
 
 -- of the book's bytes b and the sheet's bytes t
 module _ (b t : List ℕ) where
@@ -36,10 +27,6 @@ module _ (b t : List ℕ) where
   abbrev pub bookSheetQuestions : List Question
   bookSheetQuestions =
       sheetQuestions t (shapeOf t) (bookOf b .grading .steps) (nameCount (bookOf b)) (roleCount (bookOf b)) (individuals (bookOf b))
-
-  -- what they say yes to, of a sheet of the shape p
-  abbrev pub SheetFits : Shape → Type 0
-  SheetFits p = SheetRight t p (bookOf b .grading .steps) (nameCount (bookOf b)) (roleCount (bookOf b)) (individuals (bookOf b))
 
   -- "Working out a sheet, after 9", with a grid buffer of g bytes: .. "Has the grid buffer n times the term count?"
   abbrev pub workQuestions : (g : ℕ) → List Question
