@@ -49,7 +49,7 @@ module _ {n : ℕ} {links v : List ℕ} {r x e : ℕ} (ok : Reached n links v r 
   pub lent-long : (n ≤ length row) × (n ≤ length column)
   lent-long = (
     part-long links row n (n * (n * r + e)) row-is (ok .row-end),
-    part-long v column n (64 * x) column-is (omega (arith, ok .few-elements, ok .child, ok .room)),
+    part-long v column n (64 * x) column-is (omega (arith, ok .few-elements, ok .child)),
   )
 
   pub row-le : (N : ℕ) → ((k : ℕ) → getD links k 0 ≤ N) → (f : ℕ) → f < n → getD row f 0 ≤ N
@@ -98,8 +98,7 @@ module _ {s : List ℕ} {N n A R : ℕ} {names links : List ℕ} (w : Workable s
           few-elements = w .few-elements;
           element = l;
           row-end = omega (arith, block-row-end n (aAt s i) R e (omega arith) l, w .links-long);
-          child = omega (arith, below (range-kind s i k q in-range), w .few-terms);
-          room = long;
+          child = omega (arith, below (range-kind s i k q in-range), w .few-terms, long);
         }
 
   -- the columns so far are on the chain

@@ -2,7 +2,7 @@
 -- Assumes nothing.
 use mathlib.Core.Path.{_≡_}
 use mathlib.Core.List.{List, flatMap}
-use Prim.Native.Nat.{ℕ, _+_, _*_, _<_}
+use Prim.Native.Nat.{ℕ, _+_, _*_, _/_, _<_}
 use lib.ListN.{length, getD}
 use Rattle.chain.specs.Lists.{table, from}
 use Rattle.semantics.specs.Interpretations.{Grading, Interpretation, gradeAt}
@@ -10,6 +10,10 @@ use Rattle.semantics.specs.Interpretations.{Grading, Interpretation, gradeAt}
 -- the grade of term i at element e
 abbrev pub cellAt : List ℕ → (i e : ℕ) → ℕ
 cellAt v i e = getD v (64 * i + e) 0
+
+-- how many columns there are
+abbrev pub columnCount : List ℕ → ℕ
+columnCount v = length v / 64
 
 -- the columns hold the grades of the first k terms at every element
 abbrev pub HoldsTo : Grading → Interpretation → (k : ℕ) → List ℕ → Type 0

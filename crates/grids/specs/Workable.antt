@@ -11,7 +11,7 @@ use Rattle.semantics.specs.Interpretations.{graded, atElements, gradeAt}
 use Rattle.semantics.specs.Books.{nameAbove, roleAbove}
 use Rattle.sections.specs.Terms.{termsOf, TermsRight}
 use Rattle.sheets.specs.Reading.{interpretation}
-use Rattle.grids.specs.Columns.{cellAt, HoldsTo}
+use Rattle.grids.specs.Columns.{cellAt, columnCount, HoldsTo}
 
 -- on N steps: the terms' section s, n rows of A name grades, and for each of R roles n rows of n links
 pub record Workable (s : List ℕ) (N n A R : ℕ) (names links : List ℕ) : Type 0 where
@@ -58,5 +58,4 @@ pub record Reached (n : ℕ) (links v : List ℕ) (r x e : ℕ) : Type 0 where
   pub few-elements : n ≤ 64
   pub element : e < n
   pub row-end : n * (n * r + e) + n ≤ length links
-  pub child : x < 64
-  pub room : 4096 ≤ length v
+  pub child : x < columnCount v

@@ -8,7 +8,7 @@ ghost use Rattle.chain.specs.Lists.{table};
 ghost use Rattle.semantics.specs.Interpretations.{graded};
 ghost use Rattle.sections.specs.Terms.{kindAt, termCount, termAt, termsOf, InRange};
 ghost use Rattle.sheets.specs.Reading.{interpretation};
-ghost use Rattle.grids.specs.Columns.{cellAt, HoldsGrades, rowsOf};
+ghost use Rattle.grids.specs.Columns.{cellAt, columnCount, HoldsGrades, rowsOf};
 ghost use Rattle.grids.specs.Workable.{Workable, Ready, WorkedTo, Reached, gradeFrom, takenOver, takenAt};
 use grades::complement;
 use grades::greater;
@@ -61,7 +61,7 @@ fn least(steps: u8, row: &[u8], column: &[u8], n: usize) -> u8
 }
 
 // The links of `role` from element `e` to each.
-fn links_from(links: &[u8], n: usize, role: u8, e: usize) -> &[u8]
+pub fn links_from(links: &[u8], n: usize, role: u8, e: usize) -> &[u8]
     requires { ⌜ (n ≤ 64) × (e < n) × (n * (n * role + e) + n ≤ length (now links)) ⌝ }
     ensures { λ r. ⌜ now r ≡ take n (drop (n * (n * role + e)) (now (links .entry))) ⌝ }
 {
@@ -72,7 +72,7 @@ fn links_from(links: &[u8], n: usize, role: u8, e: usize) -> &[u8]
 
 // The grades of term `i` at each of `n` elements.
 fn column_of(values: &[u8], n: usize, i: u8) -> &[u8]
-    requires { ⌜ (n ≤ 64) × (i < 64) × (4096 ≤ length (now values)) ⌝ }
+    requires { ⌜ (n ≤ 64) × (i < columnCount (now values)) ⌝ }
     ensures { λ r. ⌜ now r ≡ take n (drop (64 * i) (now (values .entry))) ⌝ }
 {
     let start = 64 * (i as usize);
@@ -106,8 +106,9 @@ fn all_at(steps: u8, n: usize, links: &[u8], role: u8, values: &[u8], child: u8,
     )
 }
 
-fn cell(values: &[u8], i: u8, e: usize) -> u8
-    requires { ⌜ (i < 64) × (e < 64) × (4096 ≤ length (now values)) ⌝ }
+// The grade of term `i` at element `e`.
+pub fn cell(values: &[u8], i: u8, e: usize) -> u8
+    requires { ⌜ (i < columnCount (now values)) × (e < 64) ⌝ }
     ensures { λ r. ⌜ r ≡ cellAt (now (values .entry)) i e ⌝ }
 {
     values[64 * (i as usize) + e]

@@ -1,10 +1,8 @@
--- Laws for the functions: where a link stands; one rule or claim judged by numbers that are read from the cells; the first that is broken of a
--- section's records.
+-- Laws for the functions: one rule or claim judged by numbers that are read from the cells; the first that is broken of a section's records.
 -- Assumes nothing.
 use mathlib.Core.Path.{_≡_, sym, ap, ap₂, subst, _∙_}
 use mathlib.Core.List.{List}
-use Prim.Native.Nat.{ℕ, _+_, _*_, _≤_, _<_}
-use native.Mathlib.Nat.{mul-comm, mul-assoc, mul-add, mul-one, mul-le-mul, mul-le-mul-left}
+use Prim.Native.Nat.{ℕ, _≤_, _<_}
 use native.Mathlib.Decide.{decLe}
 use native.Mathlib.Omega.{arith}
 use Rattle.semantics.specs.Interpretations.{Interpretation}
@@ -15,27 +13,6 @@ use Rattle.sheets.specs.Working.{judge, firstBroken, ruleVerdictAt, ruleVerdict
 use Rattle.sheets.specs.declared.Verdict.{Verdict}
 use Rattle.sheets.specs.declared.Verdict.the-variants.{Meets, BreaksRule, BreaksMembership, BreaksLink}
 use Rattle.sheets.proofs.Working.{judge-yes, judge-no, first-table}
-
--- ---- where a link stands
-
--- place f of row x, of m rows of n
-row-lt : (n m x f : ℕ) → x < m → f < n → n * x + f < n * m
-row-lt n m x f h l = omega (arith, mul-add n x 1, mul-one n, mul-le-mul-left {m = x + 1} {n = m} n (omega arith))
-
--- role r, read as k, has its n rows of n among the m links
-module _ (n r e f m k : ℕ) (h : (n ≤ 64) × (e < n) × (f < n) × ((r + 1) * (n * n) ≤ m)) (g : (k ≡ r) × (k < 256)) where
-  pub link-lt : n * (n * k + e) + f < m
-  link-lt =
-      let a : n * r + e < n * (r + 1) = row-lt n (r + 1) r e (omega arith) (h .1) in
-      let b : n * (n * r + e) + f < n * (n * (r + 1)) = row-lt n (n * (r + 1)) (n * r + e) f a (h .2) in
-      let q : n * (n * (r + 1)) ≡ (r + 1) * (n * n) = sym (mul-assoc n n (r + 1)) ∙ mul-comm (n * n) (r + 1) in
-      rw (g .0) (omega arith)
-
-  -- the products do not wrap
-  pub link-small : (n * k ≤ 16384) × (n * (n * k + e) ≤ 1052672)
-  link-small =
-      let a : n * k ≤ 64 * 256 = mul-le-mul {n₁ = n} {m₁ = k} {n₂ = 64} {m₂ = 256} (h .0) (omega arith) in
-      (a, mul-le-mul {n₁ = n} {m₁ = n * k + e} {n₂ = 64} {m₂ = 16448} (h .0) (omega arith))
 
 -- ---- one rule or claim
 

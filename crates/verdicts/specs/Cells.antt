@@ -1,7 +1,7 @@
 -- The verdict by the bytes that code has: a book's sections, a sheet's links and individuals, and columns of grades; and what these must cover.
 -- Assumes nothing.
 use mathlib.Core.List.{List, []}
-use Prim.Native.Nat.{ℕ, _*_, _/_, _≤_, _<_}
+use Prim.Native.Nat.{ℕ, _*_, _≤_, _<_}
 use lib.ListN.{length}
 use Rattle.semantics.specs.Interpretations.{Interpretation}
 use Rattle.semantics.specs.Books.{MembershipClaim, LinkClaim, membershipIndividuals, linkIndividuals, linkRoles}
@@ -10,7 +10,7 @@ use Rattle.sections.specs.Claims.{claimCount, membershipAt, membershipsOf, link
 use Rattle.sheets.specs.Reading.{interpretation}
 use Rattle.sheets.specs.Working.{verdictBy}
 use Rattle.sheets.specs.declared.Verdict.{Verdict}
-use Rattle.grids.specs.Columns.{cellAt}
+use Rattle.grids.specs.Columns.{cellAt, columnCount}
 
 -- the sheet without its names, whose grades stand in the columns already
 abbrev pub sheet : (n : ℕ) (links individuals : List ℕ) → Interpretation
@@ -26,9 +26,6 @@ unfoldable pub verdictIn : (rules memberships claims values : List ℕ) (n : ℕ
 verdictIn rs ms qs v n ls js = verdictBy (cellAt v) (sheet n ls js) (rulesOf rs) (membershipsOf ms) (linksOf qs)
 
 -- ---- what there must be
-
-abbrev pub columnCount : List ℕ → ℕ
-columnCount v = length v / 64
 
 -- every individual sits at one of n elements
 abbrev pub Seated : (n : ℕ) → List ℕ → Type 0

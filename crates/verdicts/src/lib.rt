@@ -7,21 +7,14 @@ ghost use Rattle.sections.specs.Rules.{ruleCount, ruleAt, rulesOf, RuleRight, R
 ghost use Rattle.sections.specs.Claims.{claimCount, membershipAt, membershipsOf, linkAt, linksOf};
 ghost use Rattle.sheets.specs.declared.Verdict.the-variants.{Meets};
 ghost use Rattle.sheets.specs.Working.{orElse, ruleVerdict, membershipVerdict, linkVerdict, rulesVerdict, membershipsVerdict, linksVerdict};
-ghost use Rattle.grids.specs.Columns.{cellAt};
-ghost use Rattle.verdicts.specs.Cells.{sheet, elementIn, linkIn, verdictIn, columnCount, Seated, MembershipCovered, LinkCovered, MembershipsCovered, LinksCovered, Covered};
+ghost use Rattle.grids.specs.Columns.{cellAt, columnCount};
+ghost use Rattle.verdicts.specs.Cells.{sheet, elementIn, linkIn, verdictIn, Seated, MembershipCovered, LinkCovered, MembershipsCovered, LinksCovered, Covered};
+use grids::cell;
 use sections::claimed;
 use sections::wide;
 use sheets::Verdict;
 
-// ---- what stands in the columns and on the sheet
-
-// The grade of a term at element `e`.
-fn cell(values: &[u8], term: u8, e: usize) -> u8
-    requires { ⌜ (term < columnCount (now values)) × (e < 64) ⌝ }
-    ensures { λ r. ⌜ r ≡ cellAt (now (values .entry)) term e ⌝ }
-{
-    values[64 * wide(term) + e]
-}
+// ---- what stands on the sheet
 
 // The element of an individual.
 fn element(individuals: &[u8], j: u8, n: usize) -> usize
@@ -36,7 +29,8 @@ fn link(links: &[u8], n: usize, role: u8, e: usize, f: usize) -> u8
     requires { ⌜ (n ≤ 64) × (e < n) × (f < n) × ((role + 1) * (n * n) ≤ length (now links)) ⌝ }
     ensures { λ r. ⌜ r ≡ linkIn n (now (links .entry)) role e f ⌝ }
 {
-    links[n * (n * wide(role) + e) + f]
+    let row = grids::links_from(links, n, role, e);
+    row[f]
 }
 
 fn met(v: Verdict) -> bool

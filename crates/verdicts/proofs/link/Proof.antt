@@ -1,43 +1,28 @@
--- `verdicts::link` meets its contract. The place is within the rows of the role, which bounds it.
+-- `verdicts::link` meets its contract. The role's rows are there, and the link stands in the one of `e`.
 -- Assumes nothing.
-use mathlib.Core.Path.{ap}
-use Prim.Native.Nat.{ℕ, _+_, _*_}
+use Prim.Native.Nat.{_+_, _*_, _≤_}
 use native.Mathlib.Omega.{arith}
-use lib.ListN.{getD}
-use borrow.Author.Needs.{needs}
-use Rattle.verdicts.proofs.Judging.{link-lt, link-small}
+use lib.ListN.{length}
+use Rattle.grids.proofs.Bounds.{block-row-end, part-long, part-at}
 use Rattle.verdicts.proofs.link.Statement.{statement}
 use Rattle.verdicts.proofs.link.Tie as tie
 
-wide-requires : tie.Need-wide-requires
-wide-requires c κs = search needs
+-- the row ends within the links
+row-fits : (s : tie.Start) → s .args .n * (s .args .n * s .args .role + s .args .e) + s .args .n ≤ length (s .args .links .now)
+row-fits s = omega (arith, block-row-end (s .args .n) (s .args .role) (s .args .role + 1) (s .args .e) (omega arith) (s .pre .1), s .pre .3)
 
-mul-result : tie.Need-mul-result
-mul-result c = omega (arith, link-small _ _ _ _ _ _ (c .before .before .pre) (c .wide .ensures))
-
-add-result : tie.Need-add-result
-add-result c = omega (arith, link-small _ _ _ _ _ _ (c .before .before .pre) (c .wide .ensures))
-
-mul-result-2 : tie.Need-mul-result-2
-mul-result-2 c = omega (arith, link-small _ _ _ _ _ _ (c .before .before .pre) (c .wide .ensures))
-
-add-result-2 : tie.Need-add-result-2
-add-result-2 c = omega (arith, link-small _ _ _ _ _ _ (c .before .before .pre) (c .wide .ensures))
+links-from-requires : tie.Need-links-from-requires
+links-from-requires c κs = (c .before .pre .0, c .before .pre .1, row-fits (c .before))
 
 shared-slice-read-result : tie.Need-shared-slice-read-result
-shared-slice-read-result c = link-lt _ _ _ _ _ _ (c .before .before .before .pre) (c .before .wide .ensures)
+shared-slice-read-result c =
+    let s = c .before .before .before in
+    omega (arith, s .pre .2, part-long (s .args .links .now) _ (s .args .n) _ (c .before .links-from .ensures) (row-fits s))
 
 returns : tie.Need-returns
-returns c = ap (λ (k : ℕ). getD (c .before .before .before .args .links .now) (c .before .before .before .args .n * (c .before .before .before .args .n * k + c .before .before .before .args .e) + c .before .before .before .args .f) 0) (c .before .wide .ensures .0)
+returns c =
+    let s = c .before .before .before in
+    part-at (s .args .links .now) _ (s .args .n) _ (c .before .links-from .ensures) (s .args .f) (s .pre .2)
 
 pub link-spec : {M : Type 1} → statement M
-link-spec =
-    tie.close
-    (tie.spec
-    wide-requires
-    mul-result
-    add-result
-    mul-result-2
-    add-result-2
-    shared-slice-read-result
-    returns)
+link-spec = tie.close (tie.spec links-from-requires shared-slice-read-result returns)
