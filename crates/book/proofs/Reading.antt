@@ -6,16 +6,14 @@ use Prim.Native.Nat.{ℕ, _-_, _/_, _≤_, max}
 use native.Mathlib.Omega.{arith}
 use lib.ListN.{length, length-take, length-drop}
 use Rattle.chain.specs.Lists.{highest}
-use Rattle.chain.proofs.Lists.{each-table, highest-most}
-use Rattle.semantics.specs.Terms.{Term, name, not, and, or, some, all, top, bottom}
 use Rattle.semantics.specs.Books.{Book, Valid, nameAbove, roleAbove, linkRoles, membershipIndividuals, linkIndividuals, nameCount, roleCount, individuals, RuleInRange, TermInRange}
 use Rattle.semantics.specs.Candidates.{NamesApart}
 use Rattle.semantics.proofs.Interpretations.{graded-well-formed}
-use Rattle.sections.specs.Terms.{InRange, termCount, termAt, termsOf}
-use Rattle.sections.specs.Rules.{ruleAt, ruleCount, rulesOf}
-use Rattle.sections.specs.Claims.{membershipAt, linkAt, claimCount, membershipsOf, linksOf}
-use Rattle.sections.proofs.Claims.{individuals-few}
-use Rattle.sections.proofs.Terms.{length-terms, terms-ordered, terms-apart}
+use Rattle.sections.specs.Terms.{termCount, termsOf}
+use Rattle.sections.specs.Claims.{membershipsOf, linksOf}
+use Rattle.sections.proofs.Terms.{length-terms, terms-ordered, terms-apart, names-few, roles-few}
+use Rattle.sections.proofs.Rules.{rules-each}
+use Rattle.sections.proofs.Claims.{memberships-each, individuals-few, linkRoles-few}
 use Rattle.book.specs.Layout.{sectionsOf, CountsRight, stretch, termBytes, ruleBytes, membershipBytes, linkBytes, termsIn}
 use Rattle.book.specs.Reading.{bookAt, bookOf}
 use Rattle.book.specs.Opening.{Accepts, Right}
@@ -30,27 +28,6 @@ sections-few b h = omega arith
 sections-short : (b : List ℕ) → CountsRight b → sectionsOf b .rules - sectionsOf b .terms ≤ 192
 unfolding sectionsOf
 sections-short b h = omega arith
-
--- a term in range names a role of 0 to 7, or a name of 0 to 15
-role-in : (i : ℕ) (t : Term) → InRange i t → roleAbove t ≤ 8
-role-in i (name a) h = omega arith
-role-in i (not c) h = omega arith
-role-in i (and c d) h = omega arith
-role-in i (or c d) h = omega arith
-role-in i (some r c) h = omega (arith, h .0)
-role-in i (all r c) h = omega (arith, h .0)
-role-in i top h = omega arith
-role-in i bottom h = omega arith
-
-name-in : (i : ℕ) (t : Term) → InRange i t → nameAbove t ≤ 16
-name-in i (name a) h = omega (arith, h)
-name-in i (not c) h = omega arith
-name-in i (and c d) h = omega arith
-name-in i (or c d) h = omega arith
-name-in i (some r c) h = omega arith
-name-in i (all r c) h = omega arith
-name-in i top h = omega arith
-name-in i bottom h = omega arith
 
 pub length-stretch : (b : List ℕ) (from to : ℕ) → to ≤ length b → length (stretch b from to) ≡ to - from
 length-stretch b from to h = rw (length-take, length-drop) (omega arith)
@@ -95,13 +72,10 @@ module _ (b : List ℕ) (s : Sections) (ok : Right b s) where
   terms-count = length-terms (termBytes b s) ∙ right-terms
 
   pub right-valid : Valid (bookAt b s)
-  unfolding rulesOf membershipsOf
   right-valid = record {
     well-formed = graded-well-formed (s .steps) (termsOf (termBytes b s)) (terms-ordered (termBytes b s) (ok .terms-right));
-    rules-in = each-table (RuleInRange (bookAt b s .grading)) (ruleAt (ruleBytes b s)) (ruleCount (ruleBytes b s))
-        (λ i l. rw terms-count (ok .rules-right i l));
-    terms-in = each-table (TermInRange (bookAt b s .grading)) (membershipAt (membershipBytes b s)) (claimCount (membershipBytes b s))
-        (λ i l. rw terms-count (ok .memberships-right i l .1 .0));
+    rules-in = rules-each (ruleBytes b s) (RuleInRange (bookAt b s .grading)) (λ i l. rw terms-count (ok .rules-right i l));
+    terms-in = memberships-each (membershipBytes b s) (TermInRange (bookAt b s .grading)) (λ i l. rw terms-count (ok .memberships-right i l .1 .0));
   }
 
   -- the numbers that terms and claims may name are within the format's bounds
@@ -113,21 +87,15 @@ module _ (b : List ℕ) (s : Sections) (ok : Right b s) where
   )
 
   pub right-roles : roleCount (bookOf b) ≤ 8
-  unfolding termsOf linksOf
   right-roles = omega (
     arith,
     right-counts .2,
-    highest-most roleAbove (termAt (termBytes b s)) (termCount (termBytes b s)) 8 (λ i l. role-in i (termAt (termBytes b s) i) (ok .terms-right i l .0 .0)),
-    highest-most linkRoles (linkAt (linkBytes b s)) (claimCount (linkBytes b s)) 8 (λ i l. omega (arith, ok .links-right i l .0)),
+    roles-few (termBytes b s) (ok .terms-right),
+    linkRoles-few (s .steps) (linkBytes b s) (ok .links-right),
   )
 
   pub right-names : nameCount (bookOf b) ≤ 16
-  unfolding termsOf
-  right-names = omega (
-    arith,
-    right-counts .1,
-    highest-most nameAbove (termAt (termBytes b s)) (termCount (termBytes b s)) 16 (λ i l. name-in i (termAt (termBytes b s) i) (ok .terms-right i l .0 .0)),
-  )
+  right-names = omega (arith, right-counts .1, names-few (termBytes b s) (ok .terms-right))
 
   pub right-apart : NamesApart (bookAt b s .grading .terms)
   right-apart = terms-apart (termBytes b s) (ok .terms-right)

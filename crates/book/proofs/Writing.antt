@@ -1,49 +1,35 @@
 -- Laws of writing: an accepted book's bytes are those written for its reading, so no other accepted book is read as it is.
 -- Assumes nothing.
 use mathlib.Core.Path.{_≡_, refl, sym, ap, _∙_}
-use mathlib.Core.List.{List, _∷_, _++_, flatMap}
+use mathlib.Core.List.{List, [], _∷_, _++_, flatMap}
 use Prim.Native.Nat.{ℕ, zero, suc, _+_, _*_, _≤_, _<_}
 use native.Mathlib.Nat.{add-zero, add-sub-cancel-left, mul-add-div-right, mul-add-mod-self-right, div-eq-of-lt, mod-eq-of-lt}
 use native.Mathlib.Omega.{arith}
-use lib.ListN.{length, getD, take, drop, length-take, length-drop}
+use lib.ListN.{length, getD, take, drop}
 use lib.Seq.{take-all, take-add, drop-drop}
 use Rattle.chain.specs.Lists.{table}
-use Rattle.chain.proofs.Blocks.{take-table, blocks-front, blocks-whole}
-use Rattle.sections.specs.Terms.{termAt, termsOf, TermsRight}
-use Rattle.sections.specs.Rules.{ruleAt, rulesOf}
-use Rattle.sections.specs.Claims.{senseOf, senseAt, membershipAt, membershipsOf, MembershipsRight, linkAt, linksOf}
+use Rattle.chain.proofs.Blocks.{take-table, blocks-front}
+use Rattle.sections.specs.Terms.{termOf, Described}
+use Rattle.sections.specs.Claims.{senseOf, senseAt}
+use Rattle.sections.proofs.Terms.{terms-bytes}
+use Rattle.sections.proofs.Rules.{rules-bytes}
+use Rattle.sections.proofs.Claims.{memberships-bytes, links-bytes}
 use Rattle.book.specs.Layout.{wordAt, countAt, sectionsOf, stretch, termBytes, ruleBytes, membershipBytes, linkBytes}
 use Rattle.book.specs.Reading.{bookOf}
 use Rattle.book.specs.Opening.{Accepts}
 use Rattle.book.specs.Writing.{Bytes, wordBytes, termBytesOf, ruleBytesOf, senseByte, membershipBytesOf, linkBytesOf, bytesOf}
 use Rattle.book.proofs.Opening.{accepts-right}
+use Rattle.book.proofs.Reading.{length-stretch}
 
--- ---- the bodies: the records read from one are written as its bytes, and are as many as its length says
+-- ---- the bodies: each record is written as its bytes
+
+term-written : (i kind a b : ℕ) → Described i kind a b → termBytesOf (termOf kind a b) ≡ kind ∷ a ∷ b ∷ []
+term-written i kind a b d = cc
 
 sense-written : (k : ℕ) → k < 2 → senseByte (senseOf k) ≡ k
 sense-written zero h = refl
 sense-written (suc zero) h = refl
 sense-written (suc (suc k)) h = absurd (omega arith)
-
-module _ (s : List ℕ) (n : ℕ) where
-  terms-written : length s ≡ 3 * n → TermsRight s → (flatMap termBytesOf (termsOf s) ≡ s) × (length (termsOf s) ≡ n)
-  unfolding termsOf table
-  terms-written e ok = blocks-whole termBytesOf 3 n 0 (termAt s) s (omega arith) e (λ i l. let d = ok i l .0 in cc (add-zero (3 * i)))
-
-  rules-written : length s ≡ 2 * n → (flatMap ruleBytesOf (rulesOf s) ≡ s) × (length (rulesOf s) ≡ n)
-  unfolding rulesOf table
-  rules-written e = blocks-whole ruleBytesOf 2 n 0 (ruleAt s) s (omega arith) e (λ i l. cc (add-zero (2 * i)))
-
-  memberships-written : (N m : ℕ) → length s ≡ 4 * n → MembershipsRight s N m
-      → (flatMap membershipBytesOf (membershipsOf s) ≡ s) × (length (membershipsOf s) ≡ n)
-  unfolding membershipsOf table
-  memberships-written N m e ok =
-      blocks-whole membershipBytesOf 4 n 0 (membershipAt s) s (omega arith) e
-      (λ i l. cc (add-zero (4 * i), sense-written (senseAt s i) (ok i l .1 .1 .0)))
-
-  links-written : length s ≡ 4 * n → (flatMap linkBytesOf (linksOf s) ≡ s) × (length (linksOf s) ≡ n)
-  unfolding linksOf table
-  links-written e = blocks-whole linkBytesOf 4 n 0 (linkAt s) s (omega arith) e (λ i l. cc (add-zero (4 * i)))
 
 -- ---- the contents
 
@@ -66,7 +52,7 @@ module _ (b : List ℕ) (bytes : Bytes b) where
 
 module _ (b : List ℕ) (from n : ℕ) where
   stretch-length : from + n ≤ length b → length (stretch b from (from + n)) ≡ n
-  stretch-length h = simp (length-take, length-drop) (omega arith)
+  stretch-length h = length-stretch b from (from + n) h ∙ add-sub-cancel-left from n
 
   stretch-next : take (from + n) b ≡ take from b ++ stretch b from (from + n)
   stretch-next = rw add-sub-cancel-left (take-add from n b)
@@ -83,10 +69,12 @@ bytesOf-bookOf b bytes accepts =
     let r : ℕ = 2 * countAt b 1 in
     let m : ℕ = 4 * countAt b 2 in
     let l : ℕ = 4 * countAt b 3 in
-    let terms = terms-written (termBytes b s) (countAt b 0) (stretch-length b (s .terms) t (omega arith)) (ok .terms-right) in
-    let rules = rules-written (ruleBytes b s) (countAt b 1) (stretch-length b (s .rules) r (omega arith)) in
-    let memberships = memberships-written (membershipBytes b s) (countAt b 2) _ _ (stretch-length b (s .memberships) m (omega arith)) (ok .memberships-right) in
-    let links = links-written (linkBytes b s) (countAt b 3) (stretch-length b (s .links) l (omega arith)) in
+    let terms = terms-bytes (termBytes b s) termBytesOf (countAt b 0) (stretch-length b (s .terms) t (omega arith))
+    (λ i h. term-written i _ _ _ (ok .terms-right i h .0)) in
+    let rules = rules-bytes (ruleBytes b s) ruleBytesOf (countAt b 1) (stretch-length b (s .rules) r (omega arith)) (λ i h. refl) in
+    let memberships = memberships-bytes (membershipBytes b s) membershipBytesOf (countAt b 2) (stretch-length b (s .memberships) m (omega arith))
+    (λ i h. cc (sense-written (senseAt (membershipBytes b s) i) (ok .memberships-right i h .1 .1 .0))) in
+    let links = links-bytes (linkBytes b s) linkBytesOf (countAt b 3) (stretch-length b (s .links) l (omega arith)) (λ i h. refl) in
     let contents = contents-written b bytes (ok .length-right .0) in
     let whole : take (s .end) b ≡ b = take-all (s .end) b (omega arith) in
     cc (stretch-next b (s .terms) t, stretch-next b (s .rules) r, stretch-next b (s .memberships) m, stretch-next b (s .links) l)

@@ -2,14 +2,18 @@
 -- Assumes nothing.
 use mathlib.Core.Path.{_≡_, refl, sym, ap, subst, _∙_}
 use mathlib.Core.Bool.{Bool}
-use mathlib.Core.List.{List}
-use Prim.Native.Nat.{ℕ, zero, suc, _≤_, _<_}
+use mathlib.Core.List.{List, [], _∷_, flatMap}
+use Prim.Native.Nat.{ℕ, zero, suc, _*_, _≤_, _<_}
+use native.Mathlib.Nat.{add-zero}
 use native.Mathlib.Omega.{arith}
 use lib.ListN.{length}
 use Rattle.chain.specs.Decisions.{Tells}
+use Rattle.chain.specs.Lists.{highest, table}
 use Rattle.chain.proofs.Decisions.{tells-map}
-use Rattle.chain.proofs.Lists.{length-table, getD-table}
+use Rattle.chain.proofs.Lists.{length-table, getD-table, highest-most}
+use Rattle.chain.proofs.Blocks.{blocks-whole}
 use Rattle.semantics.specs.Terms.{Term, name, not, and, or, some, all, top, bottom, term, Children, Ordered}
+use Rattle.semantics.specs.Books.{nameAbove, roleAbove}
 use Rattle.semantics.specs.Candidates.{place, IsPlace, NamesApart}
 use Rattle.sections.specs.Terms.{termOf, kindByte, aByte, InRange, Described, kindAt, aAt, bAt, termCount, termAt, termsOf, TermsRight}
 
@@ -107,6 +111,13 @@ module _ (s : List ℕ) where
   unfolding termsOf
   term-at i h = getD-table (termAt s) (termCount s) i bottom h
 
+  -- n terms, each written as its three bytes, are the section
+  pub terms-bytes : (f : Term → List ℕ) (n : ℕ) → length s ≡ 3 * n
+      → ((i : ℕ) → i < termCount s → f (termAt s i) ≡ kindAt s i ∷ aAt s i ∷ bAt s i ∷ [])
+      → (flatMap f (termsOf s) ≡ s) × (length (termsOf s) ≡ n)
+  unfolding termsOf table
+  terms-bytes f n e h = blocks-whole f 3 n 0 (termAt s) s (omega arith) e (λ i l. let w = h i l in cc (add-zero (3 * i)))
+
   module _ (ok : TermsRight s) where
     -- check 6 establishes what the theory asks: children stand below, and no name stands twice
     pub terms-ordered : Ordered (termsOf s)
@@ -139,3 +150,32 @@ module _ (s : List ℕ) where
         let m : ¬ (i < j) = λ l. ok j lj .1 i l (v .0, (u .0, v .1 ∙ sym (u .1))) in
         let n : ¬ (j < i) = λ l. ok i li .1 j l (u .0, (v .0, u .1 ∙ sym (v .1))) in
         omega arith
+
+    -- the names are 0 to 15, and the roles 0 to 7
+    pub names-few : highest nameAbove (termsOf s) ≤ 16
+    unfolding termsOf
+    names-few = highest-most nameAbove (termAt s) (termCount s) 16 (λ i l. go i (termAt s i) (ok i l .0 .0))
+      where
+        go : (i : ℕ) (t : Term) → InRange i t → nameAbove t ≤ 16
+        go i (name a) h = omega (arith, h)
+        go i (not c) h = omega arith
+        go i (and c d) h = omega arith
+        go i (or c d) h = omega arith
+        go i (some r c) h = omega arith
+        go i (all r c) h = omega arith
+        go i top h = omega arith
+        go i bottom h = omega arith
+
+    pub roles-few : highest roleAbove (termsOf s) ≤ 8
+    unfolding termsOf
+    roles-few = highest-most roleAbove (termAt s) (termCount s) 8 (λ i l. go i (termAt s i) (ok i l .0 .0))
+      where
+        go : (i : ℕ) (t : Term) → InRange i t → roleAbove t ≤ 8
+        go i (name a) h = omega arith
+        go i (not c) h = omega arith
+        go i (and c d) h = omega arith
+        go i (or c d) h = omega arith
+        go i (some r c) h = omega (arith, h .0)
+        go i (all r c) h = omega (arith, h .0)
+        go i top h = omega arith
+        go i bottom h = omega arith
