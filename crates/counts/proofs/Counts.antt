@@ -19,11 +19,7 @@ use Rattle.counts.specs.Columns.{column}
 use Rattle.sections.specs.Claims.{linksOf, membershipsOf, linkAt, membershipAt, claimCount}
 use Rattle.sections.proofs.Terms.{by-kind, length-terms, term-at, terms-ordered, terms-apart}
 
--- ---- a function of the term, where the kind is known
-
-module _ {X : Type 0} (f : Term → X) (kind a b : ℕ) where
-  pub at-kind : (k : ℕ) → kind ≡ k → f (termOf kind a b) ≡ f (termOf k a b)
-  at-kind k e = ap (λ (z : ℕ). f (termOf z a b)) e
+-- ---- the kinds that are left
 
 module _ (kind a b : ℕ) where
   pub no-name : ¬ (kind ≡ 0) → 0 ≡ nameAbove (termOf kind a b)

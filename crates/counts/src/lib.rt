@@ -42,7 +42,8 @@ pub fn count_candidates(s: &[u8], steps: u8) -> Power
 
 // ---- how many names, roles and individuals: one more than the highest, or 0
 
-fn larger(x: usize, y: usize) -> usize
+// Of two counts; `grades::greater` is the same of two grades, which are bytes.
+fn higher(x: usize, y: usize) -> usize
     ensures { λ r. ⌜ r ≡ max x y ⌝ }
 {
     if x < y { y } else { x }
@@ -80,7 +81,7 @@ pub fn count_names(s: &[u8]) -> usize
     let mut found = 0;
     let mut i = 0;
     while i < count {
-        found = larger(found, name_above(s, i));
+        found = higher(found, name_above(s, i));
         i += 1;
     }
     found
@@ -93,7 +94,7 @@ fn count_term_roles(s: &[u8]) -> usize
     let mut found = 0;
     let mut i = 0;
     while i < count {
-        found = larger(found, role_above(s, i));
+        found = higher(found, role_above(s, i));
         i += 1;
     }
     found
@@ -108,7 +109,7 @@ fn count_column(s: &[u8], k: usize) -> usize
     let mut found = 0;
     let mut i = 0;
     while i < count {
-        found = larger(found, wide(s[4 * i + k]) + 1);
+        found = higher(found, wide(s[4 * i + k]) + 1);
         i += 1;
     }
     found
@@ -118,13 +119,13 @@ fn count_column(s: &[u8], k: usize) -> usize
 pub fn count_roles(terms: &[u8], links: &[u8]) -> usize
     ensures { λ r. ⌜ r ≡ max (highest roleAbove (termsOf (now (terms .entry)))) (highest linkRoles (linksOf (now (links .entry)))) ⌝ }
 {
-    larger(count_term_roles(terms), count_column(links, 0))
+    higher(count_term_roles(terms), count_column(links, 0))
 }
 
 // I, the number of individuals that claims count.
 pub fn count_individuals(memberships: &[u8], links: &[u8]) -> usize
     ensures { λ r. ⌜ r ≡ max (highest membershipIndividuals (membershipsOf (now (memberships .entry)))) (highest linkIndividuals (linksOf (now (links .entry)))) ⌝ }
 {
-    let linked = larger(count_column(links, 1), count_column(links, 2));
-    larger(count_column(memberships, 0), linked)
+    let linked = higher(count_column(links, 1), count_column(links, 2));
+    higher(count_column(memberships, 0), linked)
 }

@@ -34,11 +34,11 @@ shared-slice-read-wide c = search needs
 wide-requires : tie.Need-wide-requires Inv-loop μ-loop
 wide-requires c κs = search needs
 
-add-larger : tie.Need-add-larger Inv-loop μ-loop
-add-larger c = search needs
+add-higher : tie.Need-add-higher Inv-loop μ-loop
+add-higher c = search needs
 
-larger-requires : tie.Need-larger-requires Inv-loop μ-loop
-larger-requires c κs = search needs
+higher-requires : tie.Need-higher-requires Inv-loop μ-loop
+higher-requires c κs = search needs
 
 add-i : tie.Need-add-i Inv-loop μ-loop
 add-i c = search needs
@@ -47,7 +47,7 @@ loop-less : tie.Need-loop-less Inv-loop μ-loop
 loop-less c = search needs
 
 loop-again : tie.Need-loop-again Inv-loop μ-loop
-loop-again c = (omega arith, c .larger .ensures ∙ ap₂ max (c .before .before .before .before .loop .inv .1) (add-one _ ∙ ap suc (c .before .wide .ensures .0)) ∙ sym (highest-table suc _ (c .before .before .before .before .loop .i)))
+loop-again c = (omega arith, c .higher .ensures ∙ ap₂ max (c .before .before .before .before .loop .inv .1) (add-one _ ∙ ap suc (c .before .wide .ensures .0)) ∙ sym (highest-table suc _ (c .before .before .before .before .loop .i)))
 
 returns : tie.Need-returns Inv-loop μ-loop
 unfolding column
@@ -64,8 +64,8 @@ count-column-spec =
     add-wide
     shared-slice-read-wide
     wide-requires
-    add-larger
-    larger-requires
+    add-higher
+    higher-requires
     add-i
     loop-less
     loop-again

@@ -13,17 +13,17 @@ count-column-requires c κs = search needs
 count-column-requires-2 : tie.Need-count-column-requires-2
 count-column-requires-2 c κs = search needs
 
-larger-requires : tie.Need-larger-requires
-larger-requires c κs = search needs
+higher-requires : tie.Need-higher-requires
+higher-requires c κs = search needs
 
 count-column-requires-3 : tie.Need-count-column-requires-3
 count-column-requires-3 c κs = search needs
 
-larger-requires-2 : tie.Need-larger-requires-2
-larger-requires-2 c κs = search needs
+higher-requires-2 : tie.Need-higher-requires-2
+higher-requires-2 c κs = search needs
 
 returns : tie.Need-returns
-returns c = c .larger2 .ensures ∙ ap₂ max (c .before .count-column3 .ensures ∙ column-members _) (c .before .before .larger .ensures ∙ ap₂ max (c .before .before .before .before .count-column .ensures) (c .before .before .before .count-column2 .ensures) ∙ columns-linked _)
+returns c = c .higher2 .ensures ∙ ap₂ max (c .before .count-column3 .ensures ∙ column-members _) (c .before .before .higher .ensures ∙ ap₂ max (c .before .before .before .before .count-column .ensures) (c .before .before .before .count-column2 .ensures) ∙ columns-linked _)
 
 pub count-individuals-spec : {M : Type 1} → statement M
 count-individuals-spec =
@@ -31,7 +31,7 @@ count-individuals-spec =
     (tie.spec
     count-column-requires
     count-column-requires-2
-    larger-requires
+    higher-requires
     count-column-requires-3
-    larger-requires-2
+    higher-requires-2
     returns)

@@ -13,12 +13,12 @@ count-term-roles-requires c κs = search needs
 count-column-requires : tie.Need-count-column-requires
 count-column-requires c κs = search needs
 
-larger-requires : tie.Need-larger-requires
-larger-requires c κs = search needs
+higher-requires : tie.Need-higher-requires
+higher-requires c κs = search needs
 
 returns : tie.Need-returns
-returns c = c .larger .ensures ∙ ap₂ max (c .before .before .count-term-roles .ensures) (c .before .count-column .ensures ∙ column-roles _)
+returns c = c .higher .ensures ∙ ap₂ max (c .before .before .count-term-roles .ensures) (c .before .count-column .ensures ∙ column-roles _)
 
 pub count-roles-spec : {M : Type 1} → statement M
 count-roles-spec =
-    tie.close (tie.spec count-term-roles-requires count-column-requires larger-requires returns)
+    tie.close (tie.spec count-term-roles-requires count-column-requires higher-requires returns)

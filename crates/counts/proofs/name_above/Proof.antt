@@ -7,7 +7,8 @@ use native.Mathlib.Omega.{arith}
 use borrow.Author.Needs.{needs}
 use Rattle.semantics.specs.Books.{nameAbove}
 use Rattle.sections.specs.Terms.{kindAt, aAt, bAt}
-use Rattle.counts.proofs.Counts.{at-kind, no-name}
+use Rattle.sections.proofs.Terms.{term-kind}
+use Rattle.counts.proofs.Counts.{no-name}
 use Rattle.counts.proofs.name_above.Statement.{statement}
 use Rattle.counts.proofs.name_above.Tie as tie
 
@@ -33,7 +34,7 @@ add-result : tie.Need-add-result
 add-result c = omega arith
 
 returns : tie.Need-returns
-returns c = add-one _ ∙ ap suc (c .wide .ensures .0) ∙ sym (at-kind nameAbove (kindAt (c .before .before .before .before .before .args .s .now) (c .before .before .before .before .before .args .i)) (aAt (c .before .before .before .before .before .args .s .now) (c .before .before .before .before .before .args .i)) (bAt (c .before .before .before .before .before .args .s .now) (c .before .before .before .before .before .args .i)) 0 (c .before .before .if1 .taken))
+returns c = add-one _ ∙ ap suc (c .wide .ensures .0) ∙ sym (ap nameAbove (term-kind (c .before .before .before .before .before .args .s .now) (c .before .before .before .before .before .args .i) 0 (c .before .before .if1 .taken)))
 
 returns-2 : tie.Need-returns-2
 returns-2 c = no-name (kindAt (c .before .before .before .args .s .now) (c .before .before .before .args .i)) (aAt (c .before .before .before .args .s .now) (c .before .before .before .args .i)) (bAt (c .before .before .before .args .s .now) (c .before .before .before .args .i)) (c .if1 .left)

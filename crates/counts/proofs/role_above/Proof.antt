@@ -7,7 +7,8 @@ use native.Mathlib.Omega.{arith}
 use borrow.Author.Needs.{needs}
 use Rattle.semantics.specs.Books.{roleAbove}
 use Rattle.sections.specs.Terms.{kindAt, aAt, bAt}
-use Rattle.counts.proofs.Counts.{at-kind, no-role}
+use Rattle.sections.proofs.Terms.{term-kind}
+use Rattle.counts.proofs.Counts.{no-role}
 use Rattle.counts.proofs.role_above.Statement.{statement}
 use Rattle.counts.proofs.role_above.Tie as tie
 
@@ -33,7 +34,7 @@ add-result : tie.Need-add-result
 add-result c = omega arith
 
 returns : tie.Need-returns
-returns c = add-one _ ∙ ap suc (c .wide .ensures .0) ∙ sym (at-kind roleAbove (kindAt (c .before .before .before .before .before .args .s .now) (c .before .before .before .before .before .args .i)) (aAt (c .before .before .before .before .before .args .s .now) (c .before .before .before .before .before .args .i)) (bAt (c .before .before .before .before .before .args .s .now) (c .before .before .before .before .before .args .i)) 4 (c .before .before .if1 .taken))
+returns c = add-one _ ∙ ap suc (c .wide .ensures .0) ∙ sym (ap roleAbove (term-kind (c .before .before .before .before .before .args .s .now) (c .before .before .before .before .before .args .i) 4 (c .before .before .if1 .taken)))
 
 mul-wide-2 : tie.Need-mul-wide-2
 mul-wide-2 c = search needs
@@ -51,7 +52,7 @@ add-result-2 : tie.Need-add-result-2
 add-result-2 c = omega arith
 
 returns-2 : tie.Need-returns-2
-returns-2 c = add-one _ ∙ ap suc (c .wide2 .ensures .0) ∙ sym (at-kind roleAbove (kindAt (c .before .before .before .before .before .before .args .s .now) (c .before .before .before .before .before .before .args .i)) (aAt (c .before .before .before .before .before .before .args .s .now) (c .before .before .before .before .before .before .args .i)) (bAt (c .before .before .before .before .before .before .args .s .now) (c .before .before .before .before .before .before .args .i)) 5 (c .before .before .if2 .taken))
+returns-2 c = add-one _ ∙ ap suc (c .wide2 .ensures .0) ∙ sym (ap roleAbove (term-kind (c .before .before .before .before .before .before .args .s .now) (c .before .before .before .before .before .before .args .i) 5 (c .before .before .if2 .taken)))
 
 returns-3 : tie.Need-returns-3
 returns-3 c = no-role (kindAt (c .before .before .before .before .args .s .now) (c .before .before .before .before .args .i)) (aAt (c .before .before .before .before .args .s .now) (c .before .before .before .before .args .i)) (bAt (c .before .before .before .before .args .s .now) (c .before .before .before .before .args .i)) (c .before .if1 .left) (c .if2 .left)
