@@ -53,9 +53,6 @@ tells-map r f g t = (λ e. f (t .0 e), λ e b. t .1 e (g b))
 
 -- ---- tests in code: comparisons, and one test after another
 
-pub tells-lt : (a b : ℕ) → Tells (ltb a b) (a < b)
-tells-lt a b = (ltb-true a b, λ e h. omega (arith, ltb-false a b e))
-
 pub tells-le : (a b : ℕ) → Tells (leb a b) (a ≤ b)
 tells-le a b = (leb-true a b, λ e h. omega (arith, leb-false a b e))
 

@@ -34,7 +34,7 @@ module _ (G : Grading) (c : ℕ) where
   unfolding rowOf
   length-row = length-table (gradeIn G c) (length (G .terms))
 
-  pub row-grades : HasGrades G c (rowOf G c)
+  row-grades : HasGrades G c (rowOf G c)
   unfolding rowOf
   row-grades i h = getD-table (gradeIn G c) (length (G .terms)) i 0 h
 

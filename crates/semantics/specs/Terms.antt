@@ -2,10 +2,7 @@
 -- Assumes nothing.
 use mathlib.Core.List.{List}
 use Prim.Native.Nat.{ℕ, zero, suc, _<_}
-use native.Mathlib.Decide.{decLt}
 use lib.ListN.{length, getD}
-use Rattle.chain.specs.Decisions.{dec-and}
-use Rattle.chain.specs.Search.{all?}
 
 -- "A term is three bytes: kind, a, b": kinds 0 to 7, in order. A name and a role are numbers, and so is a child: the number of a term.
 pub data Term : Type 0 where
@@ -33,21 +30,6 @@ Children i bottom = Unit {0}
 
 abbrev pub Ordered : List Term → Type 0
 Ordered ts = (i : ℕ) → i < length ts → Children i (term ts i)
-
-unfoldable pub children? : (i : ℕ) (t : Term) → Dec (Children i t)
-unfolding dec-and decLt
-children? i (name a) = yes tt
-children? i (not c) = decLt c i
-children? i (and c d) = dec-and (decLt c i) (decLt d i)
-children? i (or c d) = dec-and (decLt c i) (decLt d i)
-children? i (some r c) = decLt c i
-children? i (all r c) = decLt c i
-children? i top = yes tt
-children? i bottom = yes tt
-
-unfoldable pub ordered? : (ts : List Term) → Dec (Ordered ts)
-unfolding all? children?
-ordered? ts = all? (λ i. children? i (term ts i)) (length ts)
 
 -- ---- evaluation
 

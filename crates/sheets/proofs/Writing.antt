@@ -1,28 +1,24 @@
 -- Laws of writing: the sheet written for an interpretation on the chain is right, and reads back as an interpretation that agrees with it.
 -- Assumes nothing.
 use mathlib.Core.Path.{_≡_, refl, sym, ap, _∙_}
-use mathlib.Core.Option.{none}
 use mathlib.Core.List.{List, [], _∷_, _++_, flatMap, append-assoc}
 use Prim.Native.Nat.{ℕ, zero, suc, _+_, _*_, _-_, _/_, _%_, _≤_, _<_}
 use native.Mathlib.Nat.{not-suc-le-zero, zero-add, add-zero, mul-zero, zero-mul, suc-mul, mul-suc, div-add-mod', mul-le-mul-left}
 use native.Mathlib.Omega.{arith}
-use lib.ListN.{length, getD, take, length-append, List·getD-append}
+use lib.ListN.{length, getD, length-append, List·getD-append}
 use lib.Seq.{take-at, drop-at, take-all, getD-append-add}
 use Rattle.chain.specs.Lists.{Each, table, from}
-use Rattle.chain.specs.Questions.{firstNo}
 use Rattle.chain.proofs.Lists.{each-at, each-table, length-table, getD-table, table-same, flatMap-same}
 use Rattle.semantics.specs.Interpretations.{Interpretation, OnChain}
 use Rattle.semantics.specs.Books.{Book, Valid, nameCount, roleCount, individuals, RuleModel, MeetsClaims}
 use Rattle.book.specs.Layout.{wordAt, stretch}
 use Rattle.sheets.specs.Layout.{shapeOf, namesAt, linksAt, individualsAt, endAt, nameBytes, linkBytes, individualBytes}
 use Rattle.sheets.specs.Reading.{sheetOf}
-use Rattle.sheets.specs.Opening.{sheetQuestions, SheetRight, sheetBy, sheetOpened}
+use Rattle.sheets.specs.Opening.{SheetRight}
 use Rattle.sheets.specs.Writing.{shapeFor, headBytes, nameBody, linkBody, individualBody, sheetBytes}
 use Rattle.sheets.specs.Working.{verdictOf}
 use Rattle.sheets.specs.declared.Shape.{Shape}
-use Rattle.sheets.specs.declared.Sheet.the-variants.{Right}
 use Rattle.sheets.specs.declared.Verdict.the-variants.{Meets}
-use Rattle.sheets.proofs.Opening.{right-none}
 use Rattle.sheets.proofs.Agreement.{Agree, agree-meets}
 
 -- ---- blocks of one width, one after another
@@ -123,10 +119,6 @@ module _ (N A R I : ℕ) (M : Interpretation) where
         length-individuals,
       )
 
-  -- at the front of a longer list
-  pub take-sheet : (rest : List ℕ) → take (endAt p) (b ++ rest) ≡ b
-  take-sheet rest = take-at b rest (endAt p) length-sheet
-
   -- ---- its head and its bodies
 
   pub shape-sheet : shapeOf b ≡ p
@@ -206,14 +198,6 @@ module _ (N A R I : ℕ) (M : Interpretation) where
         ),
       );
     }
-
-    -- so the checks 13 to 15 say yes to it
-    pub sheet-accepted : firstNo (sheetQuestions b (shapeOf b) N A R I) ≡ none
-    sheet-accepted = right-none b p N A R I sheet-right
-
-    pub sheet-opened : sheetOpened b N A R I ≡ Right p
-    unfolding sheetOpened
-    sheet-opened = ap (sheetBy (shapeOf b)) sheet-accepted ∙ ap Right shape-sheet
 
 -- ---- what is written of a model
 
