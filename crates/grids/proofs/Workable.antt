@@ -10,37 +10,32 @@ use borrow.Author.Count.{below-more}
 use Rattle.chain.specs.Connectives.{Quantifier, zadeh, through}
 use Rattle.chain.specs.Lists.{highest}
 use Rattle.chain.proofs.Connectives.{zadeh-lawful, over-same}
-use Rattle.chain.proofs.Lists.{each-highest, each-mem, mem-at}
+use Rattle.chain.proofs.Lists.{each-at, each-highest}
 use Rattle.semantics.specs.Terms.{Term, bottom, Children}
 use Rattle.semantics.specs.Interpretations.{graded, WellFormed, OnChain, gradeAt}
 use Rattle.semantics.specs.Books.{nameAbove, roleAbove}
 use Rattle.semantics.proofs.Interpretations.{atElements-same, gradeAt-local, gradeAt-le}
 use Rattle.sections.specs.Terms.{termOf, kindAt, aAt, bAt, termCount, termAt, termsOf, InRange}
-use Rattle.sections.proofs.Terms.{by-kind, length-terms, term-at, terms-ordered}
+use Rattle.sections.proofs.Terms.{by-kind, term-kind, range-kind, length-terms, term-at, terms-ordered}
 use Rattle.sheets.specs.Reading.{interpretation}
 use Rattle.grids.specs.Columns.{cellAt}
 use Rattle.grids.specs.Workable.{Workable, WorkedTo, WorkedIn, gradeFrom, takenOver, takenAt, Reached}
 use Rattle.grids.proofs.Bounds.{entry-below, block-row-end, part-long, part-at}
 
--- ---- by kinds
+-- ---- by kinds: the grade of term i at e, by its three bytes
 
-module _ (s : List ℕ) (i : ℕ) where
-  -- what "in range" comes to where the kind is known
-  pub range-kind : (k : ℕ) → kindAt s i ≡ k → InRange i (termAt s i) → InRange i (termOf k (aAt s i) (bAt s i))
-  range-kind k e h = subst (λ (z : ℕ). InRange i (termOf z (aAt s i) (bAt s i))) e h
+module _ (kind a b : ℕ) (N n A : ℕ) (names links v : List ℕ) (i e : ℕ) where
+  -- where the kind is known
+  pub grade-kind : (k : ℕ) → kind ≡ k → gradeFrom N n A names links v i (termOf k a b) e ≡ gradeFrom N n A names links v i (termOf kind a b) e
+  grade-kind k h = ap (λ (z : ℕ). gradeFrom N n A names links v i (termOf z a b) e) (sym h)
 
-  module _ (N n A : ℕ) (names links v : List ℕ) (e : ℕ) where
-    pub grade-kind : (k : ℕ) → kindAt s i ≡ k
-        → gradeFrom N n A names links v i (termOf k (aAt s i) (bAt s i)) e ≡ gradeFrom N n A names links v i (termAt s i) e
-    grade-kind k h = ap (λ (z : ℕ). gradeFrom N n A names links v i (termOf z (aAt s i) (bAt s i)) e) (sym h)
-
-    -- the kind that is left
-    pub grade-bottom : ¬ (kindAt s i ≡ 0) → ¬ (kindAt s i ≡ 1) → ¬ (kindAt s i ≡ 2) → ¬ (kindAt s i ≡ 3) → ¬ (kindAt s i ≡ 4) → ¬ (kindAt s i ≡ 5)
-        → ¬ (kindAt s i ≡ 6) → 0 ≡ gradeFrom N n A names links v i (termAt s i) e
-    grade-bottom n0 n1 n2 n3 n4 n5 n6 =
-        by-kind (λ k t. k ≡ kindAt s i → 0 ≡ gradeFrom N n A names links v i t e) (aAt s i) (bAt s i) (λ h. absurd (n0 (sym h)))
-        (λ h. absurd (n1 (sym h))) (λ h. absurd (n2 (sym h))) (λ h. absurd (n3 (sym h))) (λ h. absurd (n4 (sym h))) (λ h. absurd (n5 (sym h)))
-        (λ h. absurd (n6 (sym h))) (λ h. refl) (λ k l h. refl) (kindAt s i) refl
+  -- the kind that is left
+  pub grade-bottom : ¬ (kind ≡ 0) → ¬ (kind ≡ 1) → ¬ (kind ≡ 2) → ¬ (kind ≡ 3) → ¬ (kind ≡ 4) → ¬ (kind ≡ 5) → ¬ (kind ≡ 6)
+      → 0 ≡ gradeFrom N n A names links v i (termOf kind a b) e
+  grade-bottom n0 n1 n2 n3 n4 n5 n6 =
+      by-kind (λ k t. k ≡ kind → 0 ≡ gradeFrom N n A names links v i t e) a b (λ h. absurd (n0 (sym h))) (λ h. absurd (n1 (sym h)))
+      (λ h. absurd (n2 (sym h))) (λ h. absurd (n3 (sym h))) (λ h. absurd (n4 (sym h))) (λ h. absurd (n5 (sym h))) (λ h. absurd (n6 (sym h)))
+      (λ h. refl) (λ k l h. refl) kind refl
 
 -- ---- quantified terms, over the row of links and the child's column as they are lent
 
@@ -65,7 +60,7 @@ module _ {n : ℕ} {links v : List ℕ} {r x e : ℕ} (ok : Reached n links v r 
 counted : (s : List ℕ) (f : Term → ℕ) (m : ℕ) → highest f (termsOf s) ≤ m → (i : ℕ) → i < termCount s → f (termAt s i) ≤ m
 counted s f m h i l =
     subst (λ (t : Term). f t ≤ m) (term-at s i l)
-    (each-mem (λ t. f t ≤ m) (termsOf s) (each-highest f (termsOf s) m h) _ (mem-at (termsOf s) i bottom (rw (length-terms s) l)))
+    (each-at (λ t. f t ≤ m) (termsOf s) bottom .0 (each-highest f (termsOf s) m h) i (rw (length-terms s) l))
 
 module _ {s : List ℕ} {N n A R : ℕ} {names links : List ℕ} (w : Workable s N n A R names links) where
   well-formed : WellFormed (graded N (termsOf s))
@@ -75,16 +70,12 @@ module _ {s : List ℕ} {N n A R : ℕ} {names links : List ℕ} (w : Workable s
   on-chain h = record { inhabited = h; names-le = λ a e l. w .names-le _; links-le = λ r e f l g. w .links-le _; element-lt = λ j. h }
 
   module _ (i : ℕ) (h : i < termCount s) where
-    pub in-range : InRange i (termAt s i)
-    in-range = w .right i h .0 .0
-
     at-term : i < length (termsOf s)
     at-term = rw (length-terms s) h
 
     pub name-below : (e : ℕ) → e < n → kindAt s i ≡ 0 → A * e + aAt s i < length names
     name-below e l k =
-        let m : nameAbove (termOf 0 (aAt s i) (bAt s i)) ≤ A =
-        subst (λ (z : ℕ). nameAbove (termOf z (aAt s i) (bAt s i)) ≤ A) k (counted s nameAbove A (w .names-counted) i h) in
+        let m = subst (λ (t : Term). nameAbove t ≤ A) (term-kind s i 0 k) (counted s nameAbove A (w .names-counted) i h) in
         omega (arith, entry-below A (aAt s i) e n (omega arith) l, w .names-long)
 
     -- of a kind with a role and a child
@@ -92,13 +83,12 @@ module _ {s : List ℕ} {N n A R : ℕ} {names links : List ℕ} (w : Workable s
         → suc (aAt s i) ≡ roleAbove (termOf k (aAt s i) (bAt s i)) → (InRange i (termOf k (aAt s i) (bAt s i)) → bAt s i < i)
         → Reached n links v (aAt s i) (bAt s i) e
     reached v long e l k q names below =
-        let m : roleAbove (termOf k (aAt s i) (bAt s i)) ≤ R =
-        subst (λ (z : ℕ). roleAbove (termOf z (aAt s i) (bAt s i)) ≤ R) q (counted s roleAbove R (w .roles-counted) i h) in
+        let m = subst (λ (t : Term). roleAbove t ≤ R) (term-kind s i k q) (counted s roleAbove R (w .roles-counted) i h) in
         record {
           few-elements = w .few-elements;
           element = l;
           row-end = omega (arith, block-row-end n (aAt s i) R e (omega arith) l, w .links-long);
-          child = omega (arith, below (range-kind s i k q in-range), w .few-terms, long);
+          child = omega (arith, below (range-kind s i (w .right) h k q), w .few-terms, long);
         }
 
   -- the columns so far are on the chain

@@ -34,6 +34,10 @@ module _ (s : List ℕ) (N n A : ℕ) (names links : List ℕ) where
   abbrev pub WorkedTo : (k : ℕ) → List ℕ → Type 0
   WorkedTo k v = (individuals : List ℕ) → HoldsTo (graded N (termsOf s)) (interpretation n A names links individuals) k v
 
+  -- .. of all terms
+  abbrev pub WorkedAll : List ℕ → Type 0
+  WorkedAll = WorkedTo (length (termsOf s))
+
   -- .. and column k those at the first m elements
   abbrev pub WorkedIn : (k m : ℕ) → List ℕ → Type 0
   WorkedIn k m v =

@@ -5,11 +5,9 @@ ghost use Prim.Native.Nat.{ℕ, _+_, _*_, _-_, _<_, _≤_, min, max};
 ghost use lib.ListN.{length, getD, take, drop};
 ghost use Rattle.chain.specs.Connectives.{existential, universal};
 ghost use Rattle.chain.specs.Lists.{table};
-ghost use Rattle.semantics.specs.Interpretations.{graded};
-ghost use Rattle.sections.specs.Terms.{kindAt, termCount, termAt, termsOf, InRange};
-ghost use Rattle.sheets.specs.Reading.{interpretation};
-ghost use Rattle.grids.specs.Columns.{cellAt, columnCount, HoldsGrades, rowsOf};
-ghost use Rattle.grids.specs.Workable.{Workable, Ready, WorkedTo, Reached, gradeFrom, takenOver, takenAt};
+ghost use Rattle.sections.specs.Terms.{termOf, termCount, termAt, InRange};
+ghost use Rattle.grids.specs.Columns.{cellAt, columnCount, rowsOf};
+ghost use Rattle.grids.specs.Workable.{Workable, Ready, WorkedTo, WorkedAll, Reached, gradeFrom, takenOver, takenAt};
 use grades::complement;
 use grades::greater;
 use grades::lesser;
@@ -121,16 +119,13 @@ fn name_grade(names: &[u8], a: usize, name: u8, e: usize) -> u8
     names[a * e + name as usize]
 }
 
-// Of a term that is no name and not quantified: its children's grades at `e` decide.
-fn plain_grade(terms: &[u8], i: usize, steps: u8, values: &[u8], e: usize) -> u8
-    requires { ⌜ (i < termCount (now terms)) × (i < 64) × (e < 64) × (4096 ≤ length (now values)) × InRange i (termAt (now terms) i) ⌝ }
+// Of term `i`, by its three bytes, where it is no name and not quantified: its children's grades at `e` decide.
+fn plain_grade(kind: u8, x: u8, y: u8, i: usize, steps: u8, values: &[u8], e: usize) -> u8
+    requires { ⌜ (i ≤ columnCount (now values)) × (e < 64) × InRange i (termOf kind x y) ⌝ }
     requires { ⌜ ((j : ℕ) → j < i → cellAt (now values) j e ≤ steps) ⌝ }
-    requires { ⌜ (kindAt (now terms) i ≡ 0 → ⊥) × (kindAt (now terms) i ≡ 4 → ⊥) × (kindAt (now terms) i ≡ 5 → ⊥) ⌝ }
-    ensures { λ r. ⌜ ((n A : ℕ) (ns ls : List ℕ) → r ≡ gradeFrom steps n A ns ls (now (values .entry)) i (termAt (now (terms .entry)) i) e) ⌝ }
+    requires { ⌜ (kind ≡ 0 → ⊥) × (kind ≡ 4 → ⊥) × (kind ≡ 5 → ⊥) ⌝ }
+    ensures { λ r. ⌜ ((n A : ℕ) (ns ls : List ℕ) → r ≡ gradeFrom steps n A ns ls (now (values .entry)) i (termOf kind x y) e) ⌝ }
 {
-    let kind = terms[3 * i];
-    let x = terms[3 * i + 1];
-    let y = terms[3 * i + 2];
     if kind == 1 {
         return complement(steps, cell(values, x, e));
     }
@@ -175,7 +170,7 @@ fn grade(
     if kind == 5 {
         return all_at(steps, n, links, x, values, y, e);
     }
-    plain_grade(terms, i, steps, values, e)
+    plain_grade(kind, x, y, i, steps, values, e)
 }
 
 // ---- all terms at all elements
@@ -217,7 +212,7 @@ pub fn work_out(
 )
     requires { ⌜ Workable (now terms) steps n a roles (now names) (now links) ⌝ }
     requires { ⌜ 4096 ≤ length (now values) ⌝ }
-    ensures { λ r. ⌜ ((js : List ℕ) → HoldsGrades (graded steps (termsOf (now (terms .entry)))) (interpretation n a (now (names .entry)) (now (links .entry)) js) (now (values .exit))) ⌝ }
+    ensures { λ r. ⌜ WorkedAll (now (terms .entry)) steps n a (now (names .entry)) (now (links .entry)) (now (values .exit)) ⌝ }
 {
     let count = terms.len() / 3;
     let mut i = 0;

@@ -7,7 +7,7 @@ use lib.ListN.{length}
 use Rattle.chain.specs.Connectives.{existential, universal, over}
 use Rattle.chain.specs.Lists.{highest}
 use Rattle.chain.proofs.Connectives.{over-same}
-use Rattle.chain.proofs.Lists.{each-map₂, each-map₃, each-highest, each-mem, mem-at}
+use Rattle.chain.proofs.Lists.{each-map₂, each-map₃, each-at, each-highest}
 use Rattle.semantics.specs.Terms.{Term, name, not, and, or, some, all, top, bottom, term, local}
 use Rattle.semantics.specs.Interpretations.{Grading, Interpretation, WellFormed, OnChain, atElements, gradeAt}
 use Rattle.semantics.specs.Books.{Rule, MembershipClaim, LinkClaim, Book, Valid, RuleInRange, TermInRange, nameAbove, roleAbove, linkRoles, membershipIndividuals, linkIndividuals, nameCount, roleCount, individuals, MeetsRule, MeetsMembership, MeetsLink, RuleModel, MeetsClaims}
@@ -55,7 +55,7 @@ module _ (G : Grading) (A R I : ℕ) (M K : Interpretation) (same : Agree A R I 
       i l e (omega (arith, same .size-same))
     where
       at : (above : Term → ℕ) (n : ℕ) → highest above (G .terms) ≤ n → (j : ℕ) → j < length (G .terms) → above (term (G .terms) j) ≤ n
-      at above n b j m = each-mem (λ t. above t ≤ n) (G .terms) (each-highest above (G .terms) n b) _ (mem-at (G .terms) j bottom m)
+      at above n b j m = each-at (λ t. above t ≤ n) (G .terms) bottom .0 (each-highest above (G .terms) n b) j m
 
 -- ---- rules and claims
 

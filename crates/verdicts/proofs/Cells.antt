@@ -2,13 +2,11 @@
 -- asks.
 -- Assumes nothing.
 use mathlib.Core.Path.{_≡_}
-use mathlib.Core.Logic.{dite}
 use mathlib.Core.List.{List}
 use Prim.Native.Nat.{ℕ, _*_, _≤_, _<_, max}
 use native.Mathlib.Nat.{mul-le-mul-right}
-use native.Mathlib.Decide.{decLt}
 use native.Mathlib.Omega.{arith}
-use lib.ListN.{length, List·getD-eq-default}
+use lib.ListN.{length}
 use Rattle.chain.specs.Lists.{highest}
 use Rattle.chain.proofs.Lists.{highest-at}
 use Rattle.semantics.specs.Interpretations.{Grading, Interpretation, gradeAt}
@@ -17,15 +15,12 @@ use Rattle.sections.specs.Rules.{rulesOf, RulesRight}
 use Rattle.sections.specs.Claims.{claimCount, membershipAt, membershipsOf, MembershipsRight, linkAt, linksOf}
 use Rattle.sheets.specs.Reading.{interpretation}
 use Rattle.sheets.specs.Working.{linkVerdict, linksVerdict, verdictBy, verdictOf}
+use Rattle.sheets.proofs.Reading.{everywhere}
 use Rattle.sheets.proofs.Working.{verdict-same}
 use Rattle.grids.specs.Columns.{cellAt, HoldsGrades}
-use Rattle.verdicts.specs.Cells.{verdictIn, elementIn, Seated, Covered}
+use Rattle.verdicts.specs.Cells.{verdictIn, Seated, Covered}
 
 -- ---- the verdict on the book
-
--- beyond its end a list of elements gives element 0, which there is
-seated-all : (n : ℕ) (js : List ℕ) → 0 < n → Seated n js → (j : ℕ) → elementIn js j < n
-seated-all n js z h j = dite (decLt j (length js)) (h j) (λ l. rw (List·getD-eq-default js 0 {n = j} (omega arith)) z)
 
 module _ (G : Grading) (rs ms qs : List ℕ) (n A : ℕ) (ns ls js v : List ℕ) where
   abbrev book : Book
@@ -38,7 +33,7 @@ module _ (G : Grading) (rs ms qs : List ℕ) (n A : ℕ) (ns ls js v : List ℕ)
   pub verdict-in : Valid book → 0 < n → Seated n js → HoldsGrades G whole v → verdictIn rs ms qs v n ls js ≡ verdictOf book whole
   unfolding verdictIn verdictOf verdictBy linksVerdict linkVerdict
   verdict-in ok z s h =
-      verdict-same (cellAt v) (gradeAt G whole) whole (length (G .terms)) h (seated-all n js z s) (rulesOf rs) (membershipsOf ms) (linksOf qs)
+      verdict-same (cellAt v) (gradeAt G whole) whole (length (G .terms)) h (everywhere (λ e. e < n) js z s) (rulesOf rs) (membershipsOf ms) (linksOf qs)
       (ok .rules-in) (ok .terms-in)
 
 -- ---- what the checks establish: on rules and claims against t terms, and on a sheet with as many individuals and roles as the book counts

@@ -6,7 +6,7 @@ use native.Mathlib.Omega.{arith}
 use borrow.Author.Needs.{needs}
 use Rattle.sections.specs.Terms.{termOf, kindAt, aAt, bAt, termAt}
 use Rattle.grids.specs.Workable.{gradeFrom}
-use Rattle.grids.proofs.Workable.{grade-kind, name-below, reached, in-range, cell-le}
+use Rattle.grids.proofs.Workable.{grade-kind, name-below, reached, cell-le}
 use Rattle.grids.proofs.grade.Statement.{statement}
 use Rattle.grids.proofs.grade.Tie as tie
 
@@ -17,8 +17,10 @@ kinded : (s : tie.Start) (k : ℕ) → kindAt (s .args .terms .now) (s .args .i)
     ≡ gradeFrom (s .args .steps) (s .args .n) (s .args .a) (s .args .names .now) (s .args .links .now) (s .args .values .now) (s .args .i)
     (termAt (s .args .terms .now) (s .args .i)) (s .args .e)
 kinded s =
-    grade-kind (s .args .terms .now) (s .args .i) (s .args .steps) (s .args .n) (s .args .a) (s .args .names .now) (s .args .links .now)
-    (s .args .values .now) (s .args .e)
+    let t = s .args .terms .now in
+    let i = s .args .i in
+    grade-kind (kindAt t i) (aAt t i) (bAt t i) (s .args .steps) (s .args .n) (s .args .a) (s .args .names .now) (s .args .links .now)
+    (s .args .values .now) i (s .args .e)
 
 mul-kind : tie.Need-mul-kind
 mul-kind c = search needs
@@ -80,7 +82,7 @@ plain-grade-requires c κs =
     let w = s .pre .0 .1 in
     let i = s .pre .1 .0 .0 in
     let e = s .pre .1 .0 .1 in (
-      (i, omega (arith, w .few-terms), omega (arith, w .few-elements), s .pre .1 .0 .2, in-range w (s .args .i) i),
+      (omega (arith, w .few-terms), omega (arith, w .few-elements), w .right (s .args .i) i .0 .0),
       (
         λ j h. cell-le w (s .args .i) (s .args .values .now) (omega arith) (s .pre .1 .1) j h (s .args .e) e,
         (c .before .before .if1 .left, c .before .if2 .left, c .if3 .left),
