@@ -1,19 +1,13 @@
 // Writes books: a head from four counts, then the bodies, record by record.
 ghost use mathlib.Core.Path.{_≡_};
-ghost use Prim.Native.Nat.{_<_};
 ghost use lib.ListN.{length};
+use reports::numbers::wide;
 
 // Room for every book of the cases, of which the longest has 851 bytes.
 pub fn blank() -> [u8; 1024]
     ensures { λ r. ⌜ 1024 ≡ length r ⌝ }
 {
     [0; 1024]
-}
-
-fn wide(x: u8) -> usize
-    ensures { λ r. ⌜ r < 256 ⌝ }
-{
-    x as usize
 }
 
 // Each writer answers the place after what it wrote. Where the room is used up, nothing is written.

@@ -1,8 +1,9 @@
 // Random books: a head that fits, bodies of random records, and now and then some damage.
-ghost use mathlib.Core.Path.{_≡_};
 use crate::books;
 use crate::books::blank;
 use crate::judged::compare;
+use reports::numbers::long;
+use reports::numbers::next;
 use reports::tally::Tally;
 use reports::tally::begin;
 use reports::text::set;
@@ -26,17 +27,6 @@ struct Shape {
     links: u8,
 }
 
-fn wide(x: u8) -> u64
-    ensures { λ r. ⌜ r ≡ x ⌝ }
-{
-    x as u64
-}
-
-// Lehmer's generator.
-fn next(seed: u64) -> u64 {
-    seed % 2147483647 * 48271 % 2147483647
-}
-
 // A number below `bound`, but `bound` itself in one of 100 draws.
 fn pick(seed: u64, bound: u8) -> u8 {
     if bound == 0 {
@@ -45,7 +35,7 @@ fn pick(seed: u64, bound: u8) -> u8 {
     if seed % 100 == 0 {
         return bound;
     }
-    (seed / 100 % wide(bound) % 256) as u8
+    (seed / 100 % long(bound) % 256) as u8
 }
 
 fn draw(p: Pen, b: &mut [u8], bound: u8) -> Pen {

@@ -4,6 +4,7 @@ ghost use lib.ListN.{length};
 use crate::answers::Answer;
 use crate::answers::accepted;
 use crate::answers::refused;
+use reports::numbers::wide;
 
 // Above the number of every check.
 const NONE: u8 = 11;
@@ -21,12 +22,6 @@ struct Walk {
     lowest: u8,
     names: [bool; 16],
     candidates: u64,
-}
-
-fn wide(x: u8) -> usize
-    ensures { λ r. ⌜ r < 256 ⌝ }
-{
-    x as usize
 }
 
 fn byte(b: &[u8], at: usize) -> usize

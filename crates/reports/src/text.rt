@@ -1,6 +1,7 @@
 // Books, sheets and rows of numbers, written as text. What is no digit separates, so words and signs may stand between.
-ghost use Prim.Native.Nat.{_≤_, _<_};
+ghost use Prim.Native.Nat.{_≤_};
 ghost use lib.ListN.{length};
+use crate::numbers::wide;
 use std::num::wrapping_add_usize;
 
 // The numbers of a line; those past the last cell are only counted. `open` says that the last may have more digits.
@@ -30,12 +31,6 @@ fn digit(c: u8) -> u8 {
         return 16;
     }
     if c <= b'F' { c - b'A' + 10 } else { 16 }
-}
-
-fn wide(x: u8) -> usize
-    ensures { λ r. ⌜ r < 256 ⌝ }
-{
-    x as usize
 }
 
 // The row with one more character read.

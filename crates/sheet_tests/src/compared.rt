@@ -3,7 +3,7 @@ use crate::answers::judge;
 use crate::answers::of_worked;
 use crate::answers::refused;
 use crate::second;
-use crate::second::times;
+use reports::numbers::times;
 use reports::tally::Tally;
 use reports::tally::begin;
 use reports::text;

@@ -1,29 +1,10 @@
 // A second evaluation, written from document 01 alone: the grade of one term at one element, without a grid.
+use reports::numbers::larger;
+use reports::numbers::less;
+use reports::numbers::smaller;
+use reports::numbers::times;
 use reports::text::byte;
 use std::num::wrapping_add_usize;
-
-fn smaller(x: u8, y: u8) -> u8 {
-    if x < y { x } else { y }
-}
-
-fn larger(x: u8, y: u8) -> u8 {
-    if x < y { y } else { x }
-}
-
-fn less(x: u8, y: u8) -> u8 {
-    if x < y { 0 } else { x - y }
-}
-
-// The product, of numbers that are not too large.
-pub fn times(x: usize, y: usize) -> usize {
-    if 65536 <= x {
-        return 0;
-    }
-    if 65536 <= y {
-        return 0;
-    }
-    x * y
-}
 
 // Byte `at` of term `i`.
 fn part(b: &[u8], i: usize, at: usize) -> u8 {

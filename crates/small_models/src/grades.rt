@@ -3,21 +3,12 @@
 use crate::shape::Shape;
 use crate::shape::cell;
 use crate::shape::term;
-use crate::shape::times;
+use reports::numbers::larger;
+use reports::numbers::less;
+use reports::numbers::smaller;
+use reports::numbers::times;
 use reports::text::byte;
 use reports::text::set;
-
-pub fn smaller(x: u8, y: u8) -> u8 {
-    if x < y { x } else { y }
-}
-
-pub fn larger(x: u8, y: u8) -> u8 {
-    if x < y { y } else { x }
-}
-
-pub fn less(x: u8, y: u8) -> u8 {
-    if x < y { 0 } else { x - y }
-}
 
 // Not, and, or, top, bottom.
 pub fn joined(steps: u8, kind: usize, x: u8, y: u8) -> u8 {

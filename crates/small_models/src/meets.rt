@@ -6,7 +6,7 @@ use crate::shape::link_claim;
 use crate::shape::membership;
 use crate::shape::number;
 use crate::shape::rule;
-use crate::shape::times;
+use reports::numbers::times;
 use reports::text::set;
 
 fn rule_met(s: Shape, n: usize, grid: &[u8], left: usize, right: usize) -> bool {

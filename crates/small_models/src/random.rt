@@ -1,19 +1,9 @@
 // Random books, drawn from templates. A byte of a template below 80 stands for itself. Of any other the low digit says how many values there are
 // to draw from, and the high digit the lowest of them: 8 for 0, 9 for 1, A for 2, B for 4, C for 6.
-ghost use mathlib.Core.Path.{_≡_};
+use reports::numbers::long;
+use reports::numbers::next;
 
 pub const SEED: u64 = 7;
-
-fn wide(x: u8) -> u64
-    ensures { λ r. ⌜ r ≡ x ⌝ }
-{
-    x as u64
-}
-
-// Lehmer's generator.
-fn next(seed: u64) -> u64 {
-    seed % 2147483647 * 48271 % 2147483647
-}
 
 fn lowest(digit: u8) -> u8 {
     match digit {
@@ -33,7 +23,7 @@ fn value(code: u8, seed: u64) -> u8 {
     if values == 0 {
         return code;
     }
-    let step = (seed / 100 % wide(values) % 16) as u8;
+    let step = (seed / 100 % long(values) % 16) as u8;
     lowest(code / 16) % 8 + step
 }
 

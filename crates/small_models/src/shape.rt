@@ -1,5 +1,7 @@
 // A small book, read as document 01 lays it out: how much of each there is, and its records. A byte past the end is 0.
 ghost use Prim.Native.Nat.{_<_};
+use reports::numbers::times;
+use reports::numbers::wide;
 use reports::text::byte;
 use std::num::wrapping_add_usize;
 
@@ -14,28 +16,11 @@ pub struct Shape {
     pub individuals: usize,
 }
 
-pub fn wide(x: u8) -> usize
-    ensures { λ r. ⌜ r < 256 ⌝ }
-{
-    x as usize
-}
-
 // The byte at a place, as a number.
 pub fn number(b: &[u8], at: usize) -> usize
     ensures { λ r. ⌜ r < 256 ⌝ }
 {
     wide(byte(b, at))
-}
-
-// The product, of numbers that are not too large.
-pub fn times(x: usize, y: usize) -> usize {
-    if 65536 <= x {
-        return 0;
-    }
-    if 65536 <= y {
-        return 0;
-    }
-    x * y
 }
 
 // The place of a column in a row.

@@ -1,10 +1,10 @@
--- `small_models::shape::times` meets its contract. The product is at most 65535 times the first number.
+-- `reports::numbers::times` meets its contract. The product is at most 65535 times the first number.
 -- Assumes nothing.
 use borrow.Author.Needs.{needs}
 use native.Mathlib.Omega.{arith}
 use native.Mathlib.Nat.{mul-le-mul-left}
-use Rattle.small_models.proofs.shape.times.Statement.{statement}
-use Rattle.small_models.proofs.shape.times.Tie as tie
+use Rattle.reports.proofs.numbers.times.Statement.{statement}
+use Rattle.reports.proofs.numbers.times.Tie as tie
 
 returns : tie.Need-returns
 returns c = search needs
