@@ -112,11 +112,23 @@ fn link_right(book: &[u8], r: Row) -> bool {
     same(a, answered(cell(r, 3), cell(r, 4), 0))
 }
 
+// How many numbers the row of a case has.
+fn columns(sort: u8) -> usize {
+    match sort {
+        b'd' => 6,
+        b's' => 7,
+        _ => 5,
+    }
+}
+
 pub fn right(book: &[u8], sort: u8, line: &[u8]) -> bool {
     let one = text::until(line, 0, b'|');
     let two = part_end(line, one);
     let three = part_end(line, two);
     let r = text::row_of(&line[0..one]);
+    if r.count != columns(sort) {
+        return false;
+    }
     if sort == b'l' {
         return link_right(book, r);
     }

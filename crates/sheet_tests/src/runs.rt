@@ -24,13 +24,13 @@ pub enum Recipe {
     Link,
 }
 
-// How many numbers a row has, without the grade after a 0.
-fn columns(recipe: Recipe) -> usize {
+// How many numbers a row has; a grade stands after a 0 alone.
+fn columns(recipe: Recipe, r: Row) -> usize {
     match recipe {
         Recipe::Change => 5,
         Recipe::Entries => 13,
-        Recipe::Grade => 3,
-        Recipe::Link => 4,
+        Recipe::Grade => if cell(r, 2) == 0 { 4 } else { 3 },
+        Recipe::Link => if cell(r, 3) == 0 { 5 } else { 4 },
     }
 }
 
@@ -126,12 +126,12 @@ fn graded(number: u8, grade: usize) -> Answer {
     }
 }
 
-// The case of one row; without numbers it is none.
+// The case of one row; without numbers it is none, and with too few or too many it differs.
 fn case(t: Tally, recipe: Recipe, book: &[u8], sheet: &[u8], grid: &[u8], r: Row) -> Tally {
     if r.count == 0 {
         return t;
     }
-    if r.count < columns(recipe) {
+    if r.count != columns(recipe, r) {
         return unfit(t);
     }
     let c = cell(r, 0);
