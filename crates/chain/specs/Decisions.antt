@@ -23,15 +23,6 @@ unfoldable pub dec-map : {A B : Type 0} → (A → B) → (B → A) → Dec A �
 dec-map f g (yes a) = yes (f a)
 dec-map f g (no n) = no (λ b. n (g b))
 
--- a closed decision that computes to `yes` proves its fact: `passed (..) tt`
-abbrev pub Passed : {A : Type 0} → Dec A → Type 0
-Passed (yes a) = Unit {0}
-Passed (no n) = ⊥
-
-pub passed : {A : Type 0} (d : Dec A) → Passed d → A
-passed (yes a) t = a
-passed (no n) t = absurd t
-
 -- ---- a decision as a Bool
 
 unfoldable pub says : {A : Type 0} → Dec A → Bool

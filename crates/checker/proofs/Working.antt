@@ -93,7 +93,7 @@ module _ (b t : List ℕ) (s : Sections) (ok : Right b s) (p : Shape) (fits : Sh
 
   pub size-is : gridSize b t ≡ p .elements * termsIn s
   unfolding gridSize
-  size-is = ap₂ _*_ (ap (λ (q : Shape). q .elements) (sym (fits .shape-are))) (right-length b s ok)
+  size-is = ap₂ _*_ (ap (λ (q : Shape). q .elements) (sym (fits .shape-is))) (right-length b s ok)
 
   pub fits-workable : Workable (termBytes b s) (s .steps) (p .elements) (p .names) (p .roles) (nameBytes t p) (sheetLinks t p)
   fits-workable =

@@ -2,7 +2,7 @@
 -- Assumes nothing.
 use mathlib.Core.Path.{_≡_, refl, sym, ap, ap₂, _∙_}
 use mathlib.Core.List.{List, [], _++_, flatMap}
-use Prim.Native.Nat.{ℕ, _*_}
+use Prim.Native.Nat.{ℕ, _+_, _*_}
 use native.Mathlib.Decide.{decLt}
 use Rattle.chain.specs.Decisions.{says}
 use Rattle.chain.specs.Questions.{firstNo}
@@ -30,12 +30,12 @@ use mathlib.Core.Option.{Option, some}
 use lib.ListN.{length, getD}
 use Rattle.chain.proofs.Questions.{first-both}
 use Rattle.chain.proofs.Lists.{getD-table}
-use Rattle.elimination.specs.Marks.{Marked, marked}
+use Rattle.elimination.specs.Marks.{Marked, marked?, marked}
 use Rattle.decider.specs.Deciding.{decisionOf, marksAfter, placementAfter, outcomeIn, survivorsIn, Decidable}
 use Rattle.decider.specs.declared.Decision.{Decision}
 use Rattle.decider.proofs.Listed as Left
 use Rattle.placement.proofs.Outcome as Outcome
-use Rattle.printout.proofs.Whole.{whole-placed, whole-other}
+use Rattle.printout.proofs.Whole.{types-blocks, whole-placed, whole-other}
 use Rattle.demands.specs.Readings.{printed}
 
 -- "The book (hex) .. prints exactly"
@@ -91,6 +91,11 @@ module _ (b marks buffer : List ℕ) (d : Decidable b (length marks) (length buf
   unfolding marked
   printed-without n =
       before-is [] ∙ whole-other B (marksAfter b (length buffer) marks) (length marks) types-are (λ e. n (Left.outcome-is b marks buffer d ∙ e)) ∙ printout-is
+
+-- The types' lines are printed block by block: those of the candidates marked among m from a on, then those of n more.
+pub types-in-blocks : (row : ℕ → List ℕ) (marks : List ℕ) (a m n : ℕ)
+    → typeLines row (keep (marked? marks) (from a (m + n))) ≡ typeLines row (keep (marked? marks) (from a m)) ++ typeLines row (keep (marked? marks) (from (a + m) n))
+types-in-blocks row marks = types-blocks row (marked? marks)
 
 -- and of a book that is refused before that, the refusal's line
 pub printed-refusal : (b : List ℕ) (n : ℕ) → firstNo (candidateQuestions b) ≡ some n → refusedLine n ≡ printoutOf b

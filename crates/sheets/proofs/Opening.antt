@@ -43,7 +43,7 @@ module _ (b : List ℕ) (N A R I : ℕ) where
       let q13 = first-none _ _ _ h in
       let q14 = first-none _ _ _ (q13 .1) in
       let q15 = first-none _ _ _ (q14 .1) in
-      record { shape-are = refl; head-right = q13 .0; laid-out = q14 .0; entries-right = q15 .0 }
+      record { shape-is = refl; head-right = q13 .0; laid-out = q14 .0; entries-right = q15 .0 }
 
   pub opened-right : (q : Shape) → sheetOpened b N A R I ≡ Right q → SheetRight b q N A R I
   unfolding sheetOpened
@@ -66,7 +66,7 @@ module _ (b : List ℕ) (N A R I : ℕ) where
 module _ (b : List ℕ) (p : Shape) (N A R I : ℕ) (ok : SheetRight b p N A R I) where
   pub right-none : firstNo (sheetQuestions b (shapeOf b) N A R I) ≡ none
   right-none =
-      subst (λ (s : Shape). firstNo (sheetQuestions b s N A R I) ≡ none) (ok .shape-are)
+      subst (λ (s : Shape). firstNo (sheetQuestions b s N A R I) ≡ none) (ok .shape-is)
       (first-yes _ _ _ (ok .head-right) ∙ first-yes _ _ _ (ok .laid-out) ∙ first-yes _ _ _ (ok .entries-right) ∙ first-empty)
 
   -- the bodies follow one another up to the end

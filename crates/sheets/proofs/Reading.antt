@@ -28,4 +28,4 @@ module _ (b : List ℕ) (p : Shape) (N A R I : ℕ) (ok : SheetRight b p N A R I
 
   pub sheet-is : sheetAt b p ≡ sheetOf b
   unfolding sheetOf
-  sheet-is = ap (sheetAt b) (ok .shape-are)
+  sheet-is = ap (sheetAt b) (ok .shape-is)

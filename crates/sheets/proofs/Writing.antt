@@ -187,7 +187,7 @@ module _ (N A R I : ℕ) (M : Interpretation) where
     pub sheet-right : SheetRight b p N A R I
     unfolding wordAt sheetBytes flatMap
     sheet-right = record {
-      shape-are = sym shape-sheet;
+      shape-is = sym shape-sheet;
       head-right = (omega (arith, length-sheet), (refl, (refl, (on .inhabited, (few, (refl, (refl, refl)))))));
       laid-out = (word-read namesAt, (word-read (linksAt p), (word-read (individualsAt p), length-sheet)));
       entries-right = (

@@ -16,7 +16,7 @@ sheetQuestions b p N A R I = ask 13 (headRight? b p N A R I) ∷ ask 14 (sheetLa
 
 -- what those checks say yes to, and that p is the sheet's shape
 pub record SheetRight (b : List ℕ) (p : Shape) (N A R I : ℕ) : Type 0 where
-  pub shape-are : p ≡ shapeOf b
+  pub shape-is : p ≡ shapeOf b
   pub head-right : HeadRight b p N A R I
   pub laid-out : SheetLaidOut b p
   pub entries-right : EntriesRight b p N
