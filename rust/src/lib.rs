@@ -1,0 +1,348 @@
+//! A proved checker for graded rule books: knowledge bases in the description logic fuzzy ALC on a chain of N steps.
+//!
+//! This crate is the safe side of `include/zegbiko.h`. Every call takes a book's bytes as they come and checks them
+//! first: bad input is refused with a [`Refusal`], and nothing is asked of the caller. A refusal changes no buffer, but
+//! for 17 to 19, which come after deciding. Buffers of [`MARKS`], [`PLACEMENT`], [`SHEET`] and [`GRID`] bytes suffice for
+//! every book.
+//!
+//! No call keeps anything for a later one, and none uses the heap. [`decide`] and [`write_sheet`] need some 1.6 MB of
+//! stack: a thread with Rust's default of 2 MB suffices, one of 1.5 MB does not. The others need a few KB.
+//!
+//! The book printed in the specification grades A and "not A" alike, on two steps, and claims A at least 1 of individual 0:
+//!
+//! ```
+//! use zegbiko::{Outcome, Verdict};
+//!
+//! let book = [
+//!     1, 2, 0, 18, 0, 2, 0, 24, 0, 2, 0, 28, 0, 1, 0, 32, 0, 0, // edition, N, then offset and count of each section
+//!     0, 0, 0, 1, 0, 0, // terms: 0 is the name A, 1 is "not A"
+//!     0, 1, 1, 0, // rules: A is not greater than "not A", and "not A" not greater than A
+//!     0, 0, 0, 1, // membership claim: individual 0, A, at least, grade 1
+//! ];
+//! let mut marks = [0; zegbiko::MARKS];
+//! let mut placement = [0; zegbiko::PLACEMENT];
+//! let decided = zegbiko::decide(&book, &mut marks, &mut placement)?;
+//! assert_eq!(decided.outcome, Outcome::HoldsTogether);
+//! assert_eq!(decided.survivors, 1);
+//! assert_eq!(marks[..3], [0, 1, 0]); // of the candidates 0, 1 and 2 only 1 survives,
+//! assert_eq!(placement[..2], [0, 1]); // and individual 0 is placed there
+//! assert_eq!(zegbiko::grade(&book, 1, 0), Ok(1));
+//!
+//! let mut sheet = [0; zegbiko::SHEET];
+//! let length = zegbiko::write_sheet(&book, &mut marks, &mut placement, &mut sheet)?;
+//! let mut grid = [0; zegbiko::GRID];
+//! assert_eq!(zegbiko::work_out(&book, &sheet[..length], &mut grid), Ok(Verdict::Meets));
+//! assert_eq!(grid[..2], [1, 1]); // the grades of A and "not A" at the model's one element
+//! # Ok::<(), zegbiko::Refusal>(())
+//! ```
+
+use std::error::Error;
+use std::fmt;
+
+/// The bytes of the shortest book.
+pub const BOOK_LEAST: usize = 18;
+/// The bytes of the longest book.
+pub const BOOK_MOST: usize = 850;
+/// A marks buffer that suffices for every book; [`count`] says how many bytes a book needs.
+pub const MARKS: usize = 16384;
+/// The placement buffer: two bytes for each of 8 individuals, asked for with fewer too.
+pub const PLACEMENT: usize = 16;
+/// A sheet buffer that suffices for every sheet: 12 + 64 * 16 + 8 * 64 * 64 + 8.
+pub const SHEET: usize = 33812;
+/// A grid buffer that suffices for every sheet: 64 elements times 64 terms.
+pub const GRID: usize = 4096;
+
+macro_rules! refusals {
+    ($($name:ident = $number:literal, $question:literal;)*) => {
+        /// The first check that said no, with its number; `docs/NUMBERS.md` says which call asks what, and when.
+        #[derive(Clone, Copy, Debug, PartialEq, Eq, Hash)]
+        #[repr(u8)]
+        pub enum Refusal {
+            $(#[doc = $question] $name = $number,)*
+        }
+
+        impl Refusal {
+            /// The check, as a question.
+            pub const fn question(self) -> &'static str {
+                match self {
+                    $(Refusal::$name => $question,)*
+                }
+            }
+
+            const fn numbered(number: u8) -> Option<Refusal> {
+                match number {
+                    $($number => Some(Refusal::$name),)*
+                    _ => None,
+                }
+            }
+        }
+    };
+}
+
+refusals! {
+    BookLength = 1, "is the book 18 to 850 bytes long?";
+    Edition = 2, "is byte 0 equal to 1?";
+    Steps = 3, "is N 1 to 8?";
+    Counts = 4, "is each of the four counts at most 64?";
+    Layout = 5, "do the four offsets and the length agree with the layout?";
+    Terms = 6, "is every term as described, and does no name stand twice?";
+    Rules = 7, "does every rule name two terms?";
+    MembershipClaims = 8, "is every membership claim within its ranges, grade at most N?";
+    LinkClaims = 9, "is every link claim within its ranges, grade at most N?";
+    Candidates = 10, "are there at most 16,384 candidates?";
+    Marks = 11, "has the marks buffer a byte for each candidate?";
+    Placement = 12, "has the placement buffer 16 bytes?";
+    SheetHead = 13, "has the sheet 12 bytes or more, byte 0 equal to 1, the book's N, n of 1 to 64, and the book's A, R, I?";
+    SheetLayout = 14, "do the sheet's three offsets and its length agree with the layout?";
+    SheetEntries = 15, "is every grade at most N, and every individual's element below n?";
+    Grid = 16, "has the grid buffer n times the term count?";
+    Outcome = 17, "is the outcome 1?";
+    Survivors = 18, "are there at most 64 survivors?";
+    SheetBuffer = 19, "is the sheet buffer long enough?";
+    Candidate = 20, "is each candidate number below the count?";
+    TermOrRole = 21, "is the term, or the role (0 to 7), in range?";
+}
+
+impl Refusal {
+    /// The number of the check, 1 to 21.
+    pub const fn number(self) -> u8 {
+        self as u8
+    }
+
+    /// What a call's `refusal` field says: 0 is an answer.
+    fn unless_answered(number: u8) -> Result<(), Refusal> {
+        match number {
+            0 => Ok(()),
+            _ => Err(Refusal::numbered(number).expect("a refusal is 1 to 21")),
+        }
+    }
+}
+
+impl fmt::Display for Refusal {
+    fn fmt(&self, f: &mut fmt::Formatter) -> fmt::Result {
+        write!(f, "refused {}: {}", self.number(), self.question())
+    }
+}
+
+impl Error for Refusal {}
+
+/// What deciding finds.
+#[derive(Clone, Copy, Debug, PartialEq, Eq, Hash)]
+#[repr(u8)]
+pub enum Outcome {
+    /// Some model meets rules and claims.
+    HoldsTogether = 1,
+    /// The rules have a model, but none meets the claims.
+    ClaimsFail = 2,
+    /// The rules have no model.
+    NoModel = 3,
+}
+
+/// The answer of [`decide`].
+#[derive(Clone, Copy, Debug, PartialEq, Eq, Hash)]
+pub struct Decided {
+    pub outcome: Outcome,
+    /// How many candidates are marked 1.
+    pub survivors: usize,
+}
+
+/// The answer of [`work_out`]. Rules, claims and elements are numbered from 0.
+#[derive(Clone, Copy, Debug, PartialEq, Eq, Hash)]
+#[repr(u8)]
+pub enum Verdict {
+    /// Every rule and claim is met.
+    Meets = 0,
+    /// The first rule broken, and the lowest element at which it is.
+    BreaksRule { rule: usize, element: usize } = 1,
+    /// No rule is broken; the first membership claim broken.
+    BreaksMembership { claim: usize } = 2,
+    /// Neither is; the first link claim broken.
+    BreaksLink { claim: usize } = 3,
+}
+
+/// Checks a book: refused with 1 to 9, or accepted.
+pub fn check(book: &[u8]) -> Result<(), Refusal> {
+    // SAFETY: as for every call below, a slice's pointer is not null and valid for its length, and a mutable slice
+    // overlaps no other.
+    let refusal = unsafe { raw::zegbiko_check(book.as_ptr(), book.len()) };
+    Refusal::unless_answered(refusal)
+}
+
+/// Checks a book, 1 to 10, and counts its candidates.
+pub fn count(book: &[u8]) -> Result<u64, Refusal> {
+    // SAFETY: see `check`.
+    let counted = unsafe { raw::zegbiko_count(book.as_ptr(), book.len()) };
+    Refusal::unless_answered(counted.refusal)?;
+    Ok(counted.candidates)
+}
+
+/// Decides a book by type elimination, after 1 to 12.
+///
+/// Byte c of `marks` is set to 1 if candidate c survives, else to 0; bytes past the number of candidates are kept. For
+/// [`Outcome::HoldsTogether`] two bytes of `placement` for each individual, the high byte first, are set to the
+/// candidate at which it is placed; the bytes past them are kept, and for the other outcomes all of them.
+///
+/// Needs some 1.6 MB of stack; a thread of Rust's default size has it.
+pub fn decide(book: &[u8], marks: &mut [u8], placement: &mut [u8]) -> Result<Decided, Refusal> {
+    // SAFETY: see `check`.
+    let decided = unsafe {
+        raw::zegbiko_decide(
+            book.as_ptr(),
+            book.len(),
+            marks.as_mut_ptr(),
+            marks.len(),
+            placement.as_mut_ptr(),
+            placement.len(),
+        )
+    };
+    Refusal::unless_answered(decided.refusal)?;
+    let outcome = match decided.outcome {
+        1 => Outcome::HoldsTogether,
+        2 => Outcome::ClaimsFail,
+        3 => Outcome::NoModel,
+        other => unreachable!("outcome {other}"),
+    };
+    Ok(Decided { outcome, survivors: decided.survivors })
+}
+
+/// Decides a book as [`decide`] does, `marks` and `placement` likewise, then, after 17 to 19, writes the sheet of its
+/// model and gives the sheet's length.
+///
+/// The model's elements are the survivors, ascending, with the individuals as placed. The bytes of `sheet` past the sheet
+/// are kept, and on a refusal all of them; a refusal with 17 to 19 leaves `marks` and `placement` as decided.
+///
+/// Needs some 1.6 MB of stack; a thread of Rust's default size has it.
+pub fn write_sheet(book: &[u8], marks: &mut [u8], placement: &mut [u8], sheet: &mut [u8]) -> Result<usize, Refusal> {
+    // SAFETY: see `check`.
+    let written = unsafe {
+        raw::zegbiko_write_sheet(
+            book.as_ptr(),
+            book.len(),
+            marks.as_mut_ptr(),
+            marks.len(),
+            placement.as_mut_ptr(),
+            placement.len(),
+            sheet.as_mut_ptr(),
+            sheet.len(),
+        )
+    };
+    Refusal::unless_answered(written.refusal)?;
+    Ok(written.length)
+}
+
+/// Works out a sheet on a book, after 1 to 9 and 13 to 16: whether it meets the rules and claims, or which is the first
+/// broken.
+///
+/// The first n times the term count bytes of `grid` are set, element by element, to the grades of all terms; the bytes
+/// past them are kept.
+pub fn work_out(book: &[u8], sheet: &[u8], grid: &mut [u8]) -> Result<Verdict, Refusal> {
+    // SAFETY: see `check`.
+    let worked = unsafe {
+        raw::zegbiko_work_out(book.as_ptr(), book.len(), sheet.as_ptr(), sheet.len(), grid.as_mut_ptr(), grid.len())
+    };
+    Refusal::unless_answered(worked.refusal)?;
+    Ok(match worked.verdict {
+        0 => Verdict::Meets,
+        1 => Verdict::BreaksRule { rule: worked.number, element: worked.element },
+        2 => Verdict::BreaksMembership { claim: worked.number },
+        3 => Verdict::BreaksLink { claim: worked.number },
+        other => unreachable!("verdict {other}"),
+    })
+}
+
+/// The grade of a term in a candidate, after 1 to 10, 20 and 21.
+pub fn grade(book: &[u8], candidate: usize, term: usize) -> Result<u8, Refusal> {
+    // SAFETY: see `check`.
+    let graded = unsafe { raw::zegbiko_grade(book.as_ptr(), book.len(), candidate, term) };
+    Refusal::unless_answered(graded.refusal)?;
+    Ok(graded.grade)
+}
+
+/// The link from one candidate to another for a role, after 1 to 10, 20 and 21.
+pub fn link(book: &[u8], role: u8, from: usize, to: usize) -> Result<u8, Refusal> {
+    // SAFETY: see `check`.
+    let graded = unsafe { raw::zegbiko_link(book.as_ptr(), book.len(), role, from, to) };
+    Refusal::unless_answered(graded.refusal)?;
+    Ok(graded.grade)
+}
+
+/// The calls of `include/zegbiko.h` as they are.
+///
+/// In each answer `refusal` is 0 if the call is answered; else it is a refusal number, and every other field is 0.
+///
+/// # Safety
+///
+/// Each pointer must be valid for the length given with it and not null, also where the length is 0, and a buffer that a
+/// call writes must overlap no other buffer of that call.
+pub mod raw {
+    #[derive(Clone, Copy, Debug)]
+    #[repr(C)]
+    pub struct Counted {
+        pub refusal: u8,
+        pub candidates: u64,
+    }
+
+    #[derive(Clone, Copy, Debug)]
+    #[repr(C)]
+    pub struct Decided {
+        pub refusal: u8,
+        pub outcome: u8,
+        pub survivors: usize,
+    }
+
+    #[derive(Clone, Copy, Debug)]
+    #[repr(C)]
+    pub struct Written {
+        pub refusal: u8,
+        pub length: usize,
+    }
+
+    #[derive(Clone, Copy, Debug)]
+    #[repr(C)]
+    pub struct Worked {
+        pub refusal: u8,
+        pub verdict: u8,
+        pub number: usize,
+        pub element: usize,
+    }
+
+    #[derive(Clone, Copy, Debug)]
+    #[repr(C)]
+    pub struct Graded {
+        pub refusal: u8,
+        pub grade: u8,
+    }
+
+    extern "C" {
+        pub fn zegbiko_check(book: *const u8, book_length: usize) -> u8;
+        pub fn zegbiko_count(book: *const u8, book_length: usize) -> Counted;
+        pub fn zegbiko_decide(
+            book: *const u8,
+            book_length: usize,
+            marks: *mut u8,
+            marks_length: usize,
+            placement: *mut u8,
+            placement_length: usize,
+        ) -> Decided;
+        pub fn zegbiko_write_sheet(
+            book: *const u8,
+            book_length: usize,
+            marks: *mut u8,
+            marks_length: usize,
+            placement: *mut u8,
+            placement_length: usize,
+            sheet: *mut u8,
+            sheet_length: usize,
+        ) -> Written;
+        pub fn zegbiko_work_out(
+            book: *const u8,
+            book_length: usize,
+            sheet: *const u8,
+            sheet_length: usize,
+            grid: *mut u8,
+            grid_length: usize,
+        ) -> Worked;
+        pub fn zegbiko_grade(book: *const u8, book_length: usize, candidate: usize, term: usize) -> Graded;
+        pub fn zegbiko_link(book: *const u8, book_length: usize, role: u8, from: usize, to: usize) -> Graded;
+    }
+}
