@@ -1,0 +1,165 @@
+//! "The book": bytes to plain values with checks 1 to 9, and the counts A, R and I.
+
+use std::collections::BTreeSet;
+
+use super::ask;
+
+pub type Grade = u8;
+
+#[derive(Clone, Copy)]
+pub enum Term {
+    Name(u8),
+    Not(usize),
+    And(usize, usize),
+    Or(usize, usize),
+    Some(u8, usize),
+    All(u8, usize),
+    Top,
+    Bottom,
+}
+
+pub struct Rule {
+    pub left: usize,
+    pub right: usize,
+}
+
+pub enum Sense {
+    AtLeast,
+    AtMost,
+}
+
+pub struct Membership {
+    pub individual: usize,
+    pub term: usize,
+    pub sense: Sense,
+    pub grade: Grade,
+}
+
+pub struct LinkClaim {
+    pub role: u8,
+    pub from: usize,
+    pub to: usize,
+    pub grade: Grade,
+}
+
+pub struct Book {
+    pub steps: Grade,
+    pub terms: Vec<Term>,
+    pub rules: Vec<Rule>,
+    pub memberships: Vec<Membership>,
+    pub links: Vec<LinkClaim>,
+}
+
+impl Book {
+    pub fn read(bytes: &[u8]) -> Result<Book, u8> {
+        ask(1, (18..=850).contains(&bytes.len()))?;
+        ask(2, bytes[0] == 1)?;
+        let steps = bytes[1];
+        ask(3, (1..=8).contains(&steps))?;
+
+        let (offsets, counts): (Vec<_>, Vec<_>) =
+            bytes[2..18].chunks(4).map(|entry| (number(&entry[..2]), number(&entry[2..]))).unzip();
+        ask(4, counts.iter().all(|&count| count <= 64))?;
+        let ends = ends(18, &[3 * counts[0], 2 * counts[1], 4 * counts[2], 4 * counts[3]]);
+        ask(5, offsets == [18, ends[0], ends[1], ends[2]] && bytes.len() == ends[3])?;
+        let section = |i: usize, width| bytes[offsets[i]..ends[i]].chunks(width);
+
+        let terms = section(0, 3).enumerate().map(|(number, record)| term(number, record));
+        let terms: Vec<Term> = terms.collect::<Option<_>>().ok_or(6)?;
+        ask(6, no_name_twice(&terms))?;
+        let rules = section(1, 2).map(|record| rule(terms.len(), record));
+        let rules = rules.collect::<Option<_>>().ok_or(7)?;
+        let memberships = section(2, 4).map(|record| membership(steps, terms.len(), record));
+        let memberships = memberships.collect::<Option<_>>().ok_or(8)?;
+        let links = section(3, 4).map(|record| link_claim(steps, record));
+        let links = links.collect::<Option<_>>().ok_or(9)?;
+        Ok(Book { steps, terms, rules, memberships, links })
+    }
+
+    /// A: one more than the highest name number, or 0.
+    pub fn names(&self) -> usize {
+        one_more_than_highest(self.terms.iter().filter_map(|term| match *term {
+            Term::Name(name) => Some(usize::from(name)),
+            _ => None,
+        }))
+    }
+
+    /// R: one more than the highest role number in terms and claims, or 0.
+    pub fn roles(&self) -> usize {
+        let in_terms = self.terms.iter().filter_map(|term| match *term {
+            Term::Some(role, _) | Term::All(role, _) => Some(role),
+            _ => None,
+        });
+        let in_claims = self.links.iter().map(|claim| claim.role);
+        one_more_than_highest(in_terms.chain(in_claims).map(usize::from))
+    }
+
+    /// I: one more than the highest individual claimed, or 0.
+    pub fn individuals(&self) -> usize {
+        let in_memberships = self.memberships.iter().map(|claim| claim.individual);
+        let in_links = self.links.iter().flat_map(|claim| [claim.from, claim.to]);
+        one_more_than_highest(in_memberships.chain(in_links))
+    }
+}
+
+/// A number of two bytes, the high byte first.
+pub fn number(bytes: &[u8]) -> usize {
+    256 * usize::from(bytes[0]) + usize::from(bytes[1])
+}
+
+/// Where each body ends that follows another without a gap.
+pub fn ends(start: usize, lengths: &[usize]) -> Vec<usize> {
+    let add = |end: &mut usize, length: &usize| {
+        *end += length;
+        Some(*end)
+    };
+    lengths.iter().scan(start, add).collect()
+}
+
+fn term(number: usize, record: &[u8]) -> Option<Term> {
+    let child = |byte: u8| Some(usize::from(byte)).filter(|&child| child < number);
+    let role = |byte: u8| Some(byte).filter(|&role| role <= 7);
+    match *record {
+        [0, name, 0] if name <= 15 => Some(Term::Name(name)),
+        [1, a, 0] => Some(Term::Not(child(a)?)),
+        [2, a, b] => Some(Term::And(child(a)?, child(b)?)),
+        [3, a, b] => Some(Term::Or(child(a)?, child(b)?)),
+        [4, a, b] => Some(Term::Some(role(a)?, child(b)?)),
+        [5, a, b] => Some(Term::All(role(a)?, child(b)?)),
+        [6, 0, 0] => Some(Term::Top),
+        [7, 0, 0] => Some(Term::Bottom),
+        _ => None,
+    }
+}
+
+fn no_name_twice(terms: &[Term]) -> bool {
+    let mut seen = BTreeSet::new();
+    terms.iter().all(|term| match *term {
+        Term::Name(name) => seen.insert(name),
+        _ => true,
+    })
+}
+
+fn rule(terms: usize, record: &[u8]) -> Option<Rule> {
+    let (left, right) = (usize::from(record[0]), usize::from(record[1]));
+    (left < terms && right < terms).then_some(Rule { left, right })
+}
+
+fn membership(steps: Grade, terms: usize, record: &[u8]) -> Option<Membership> {
+    let (individual, term, grade) = (usize::from(record[0]), usize::from(record[1]), record[3]);
+    let sense = match record[2] {
+        0 => Sense::AtLeast,
+        1 => Sense::AtMost,
+        _ => return None,
+    };
+    (individual <= 7 && term < terms && grade <= steps).then_some(Membership { individual, term, sense, grade })
+}
+
+fn link_claim(steps: Grade, record: &[u8]) -> Option<LinkClaim> {
+    let (role, from, to, grade) = (record[0], usize::from(record[1]), usize::from(record[2]), record[3]);
+    (role <= 7 && from <= 7 && to <= 7 && grade <= steps).then_some(LinkClaim { role, from, to, grade })
+}
+
+fn one_more_than_highest(numbers: impl Iterator<Item = usize>) -> usize {
+    numbers.max().map_or(0, |highest| highest + 1)
+}

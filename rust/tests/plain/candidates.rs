@@ -1,0 +1,47 @@
+//! "Types and links": places, candidates, their types, and the link between two types.
+
+use super::book::{Book, Grade, Term};
+
+impl Book {
+    /// The number of candidates, if it is at most 16,384.
+    pub fn candidates(&self) -> Option<usize> {
+        let places = self.terms.iter().filter(|term| is_place(**term)).count();
+        let count = (usize::from(self.steps) + 1).checked_pow(places as u32)?;
+        (count <= 16_384).then_some(count)
+    }
+
+    /// The grades of all terms in a candidate: its digits at the places, lowest first, and what follows at the others.
+    pub fn type_of(&self, candidate: usize) -> Vec<Grade> {
+        let base = usize::from(self.steps) + 1;
+        let mut digits = candidate;
+        let mut row = Vec::new();
+        for term in &self.terms {
+            let grade = if is_place(*term) {
+                let digit = digits % base;
+                digits /= base;
+                digit as Grade
+            } else {
+                self.connective(*term, &row)
+            };
+            row.push(grade);
+        }
+        row
+    }
+
+    /// The link between two types: the greatest that every quantified term of the role allows. All of them allow 0.
+    pub fn link(&self, role: u8, first: &[Grade], second: &[Grade]) -> Grade {
+        (0..=self.steps).rev().find(|&r| self.allows(role, r, first, second)).expect("a link of 0 is allowed")
+    }
+
+    fn allows(&self, role: u8, r: Grade, first: &[Grade], second: &[Grade]) -> bool {
+        self.terms.iter().zip(first).all(|(term, &grade)| match *term {
+            Term::All(own, child) if own == role => (self.steps - r).max(second[child]) >= grade,
+            Term::Some(own, child) if own == role => r.min(second[child]) <= grade,
+            _ => true,
+        })
+    }
+}
+
+fn is_place(term: Term) -> bool {
+    matches!(term, Term::Name(_) | Term::Some(..) | Term::All(..))
+}

@@ -1,0 +1,124 @@
+//! The specification (document 01) once more, written from its text alone and the obvious way: bytes are read into plain
+//! values, each sentence is a function, and speed is no aim. It is the other side of the differential test.
+//!
+//! A refusal is its number; `ask` is the rule "the first no gives the number".
+
+pub mod book;
+pub mod candidates;
+pub mod elimination;
+pub mod grades;
+pub mod placement;
+pub mod sheets;
+
+use std::cell::OnceCell;
+
+use book::Book;
+use elimination::Eliminated;
+use grades::Verdict;
+use placement::Decision;
+
+fn ask(number: u8, yes: bool) -> Result<(), u8> {
+    if yes {
+        Ok(())
+    } else {
+        Err(number)
+    }
+}
+
+/// A book's bytes, read once, with the calls on them.
+pub struct Plain {
+    book: Result<Book, u8>,
+    most_trials: usize,
+    eliminated: OnceCell<Eliminated>,
+    decision: OnceCell<Option<Decision>>,
+}
+
+impl Plain {
+    /// Some books place their individuals for hours, so trials of a seat are counted; see `gives_up`.
+    pub fn open(bytes: &[u8], most_trials: usize) -> Plain {
+        Plain { book: Book::read(bytes), most_trials, eliminated: OnceCell::new(), decision: OnceCell::new() }
+    }
+
+    /// The book, after checks 1 to 9.
+    pub fn book(&self) -> Result<&Book, u8> {
+        self.book.as_ref().map_err(|&number| number)
+    }
+
+    /// The number of candidates, after checks 1 to 10.
+    pub fn count(&self) -> Result<usize, u8> {
+        self.book()?.candidates().ok_or(10)
+    }
+
+    /// What elimination leaves, after checks 1 to 10.
+    pub fn eliminated(&self) -> Result<&Eliminated, u8> {
+        self.count()?;
+        let book = self.book()?;
+        Ok(self.eliminated.get_or_init(|| book.eliminate()))
+    }
+
+    fn decision(&self) -> Result<Option<&Decision>, u8> {
+        let (book, survivors) = (self.book()?, &self.eliminated()?.survivors);
+        Ok(self.decision.get_or_init(|| book.place(survivors, self.most_trials)).as_ref())
+    }
+
+    /// Whether placing takes too many trials; then the book is not to be decided here.
+    pub fn gives_up(&self) -> bool {
+        matches!(self.decision(), Ok(None))
+    }
+
+    /// The decision and the number of survivors.
+    pub fn decide(&self, marks: &mut [u8], placement: &mut [u8]) -> Result<(&Decision, usize), u8> {
+        let count = self.count()?;
+        ask(11, marks.len() >= count)?;
+        ask(12, placement.len() >= 16)?;
+        let survivors = &self.eliminated()?.survivors;
+        for (candidate, mark) in marks[..count].iter_mut().enumerate() {
+            *mark = u8::from(survivors.contains_key(&candidate));
+        }
+        let decision = self.decision()?.expect("few trials");
+        if let Decision::HoldsTogether(places) = decision {
+            for (bytes, &candidate) in placement.chunks_mut(2).zip(places) {
+                bytes.copy_from_slice(&(candidate as u16).to_be_bytes());
+            }
+        }
+        Ok((decision, survivors.len()))
+    }
+
+    pub fn write_sheet(&self, marks: &mut [u8], placement: &mut [u8], sheet: &mut [u8]) -> Result<usize, u8> {
+        let (Decision::HoldsTogether(places), _) = self.decide(marks, placement)? else {
+            return Err(17);
+        };
+        let survivors = &self.eliminated()?.survivors;
+        ask(18, survivors.len() <= 64)?;
+        let book = self.book()?;
+        let written = book.sheet_of(&book.model(survivors, places));
+        ask(19, sheet.len() >= written.len())?;
+        sheet[..written.len()].copy_from_slice(&written);
+        Ok(written.len())
+    }
+
+    pub fn work_out(&self, sheet: &[u8], grid: &mut [u8]) -> Result<Verdict, u8> {
+        let book = self.book()?;
+        let world = book.read_sheet(sheet)?;
+        let rows = book.rows(&world);
+        let cells = rows.concat();
+        ask(16, grid.len() >= cells.len())?;
+        grid[..cells.len()].copy_from_slice(&cells);
+        Ok(book.verdict(&world, &rows))
+    }
+
+    pub fn grade(&self, candidate: usize, term: usize) -> Result<u8, u8> {
+        let count = self.count()?;
+        ask(20, candidate < count)?;
+        let row = self.book()?.type_of(candidate);
+        row.get(term).copied().ok_or(21)
+    }
+
+    pub fn link(&self, role: u8, from: usize, to: usize) -> Result<u8, u8> {
+        let count = self.count()?;
+        ask(20, from < count && to < count)?;
+        ask(21, role <= 7)?;
+        let book = self.book()?;
+        Ok(book.link(role, &book.type_of(from), &book.type_of(to)))
+    }
+}

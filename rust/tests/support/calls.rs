@@ -1,0 +1,149 @@
+//! The seven calls, made of each side and answered in one form.
+
+use zegbiko::raw;
+
+use super::buffer::Buffer;
+use crate::plain::grades::Verdict;
+use crate::plain::placement::Decision;
+use crate::plain::Plain;
+
+/// A call, with the lengths of the buffers that it may write.
+#[derive(Clone, Copy, Debug)]
+pub enum Call {
+    Check,
+    Count,
+    Decide { marks: usize, placement: usize },
+    WriteSheet { marks: usize, placement: usize, sheet: usize },
+    WorkOut { grid: usize },
+    Grade { candidate: usize, term: usize },
+    Link { role: u8, from: usize, to: usize },
+}
+
+impl Call {
+    pub fn name(self) -> &'static str {
+        match self {
+            Call::Check => "check",
+            Call::Count => "count",
+            Call::Decide { .. } => "decide",
+            Call::WriteSheet { .. } => "write_sheet",
+            Call::WorkOut { .. } => "work_out",
+            Call::Grade { .. } => "grade",
+            Call::Link { .. } => "link",
+        }
+    }
+
+    pub fn lengths(self) -> Vec<usize> {
+        match self {
+            Call::Decide { marks, placement } => vec![marks, placement],
+            Call::WriteSheet { marks, placement, sheet } => vec![marks, placement, sheet],
+            Call::WorkOut { grid } => vec![grid],
+            Call::Check | Call::Count | Call::Grade { .. } | Call::Link { .. } => vec![],
+        }
+    }
+}
+
+/// The fields of the C answer in order, `refusal` first; 0 where it has none.
+pub type Answer = [usize; 4];
+
+fn answer(result: Result<[usize; 3], u8>) -> Answer {
+    match result {
+        Ok([first, second, third]) => [0, first, second, third],
+        Err(number) => [number.into(), 0, 0, 0],
+    }
+}
+
+/// A side of the comparison: takes a book, a sheet (where the call does), the call and its buffers.
+pub type Side = fn(&[u8], &[u8], Call, &mut [Buffer]) -> Answer;
+
+/// The plain implementation.
+pub fn plain(book: &Plain, sheet: &[u8], call: Call, buffers: &mut [Buffer]) -> Answer {
+    answer(match (call, buffers) {
+        (Call::Check, _) => book.book().map(|_| [0; 3]),
+        (Call::Count, _) => book.count().map(|candidates| [candidates, 0, 0]),
+        (Call::Decide { .. }, [marks, placement]) => {
+            book.decide(marks.contents_mut(), placement.contents_mut()).map(|(decision, survivors)| match decision {
+                Decision::HoldsTogether(_) => [1, survivors, 0],
+                Decision::ClaimsFail => [2, survivors, 0],
+                Decision::NoModel => [3, survivors, 0],
+            })
+        }
+        (Call::WriteSheet { .. }, [marks, placement, sheet]) => book
+            .write_sheet(marks.contents_mut(), placement.contents_mut(), sheet.contents_mut())
+            .map(|length| [length, 0, 0]),
+        (Call::WorkOut { .. }, [grid]) => book.work_out(sheet, grid.contents_mut()).map(|verdict| match verdict {
+            Verdict::Meets => [0, 0, 0],
+            Verdict::BreaksRule { rule, element } => [1, rule, element],
+            Verdict::BreaksMembership { claim } => [2, claim, 0],
+            Verdict::BreaksLink { claim } => [3, claim, 0],
+        }),
+        (Call::Grade { candidate, term }, _) => book.grade(candidate, term).map(|grade| [grade.into(), 0, 0]),
+        (Call::Link { role, from, to }, _) => book.link(role, from, to).map(|link| [link.into(), 0, 0]),
+        _ => unreachable!("a call comes with its buffers"),
+    })
+}
+
+/// The library, by the safe wrapper.
+pub fn wrapped(book: &[u8], sheet: &[u8], call: Call, buffers: &mut [Buffer]) -> Answer {
+    let result = match (call, buffers) {
+        (Call::Check, _) => zegbiko::check(book).map(|()| [0; 3]),
+        (Call::Count, _) => zegbiko::count(book).map(|candidates| [candidates as usize, 0, 0]),
+        (Call::Decide { .. }, [marks, placement]) => {
+            zegbiko::decide(book, marks.contents_mut(), placement.contents_mut())
+                .map(|decided| [decided.outcome as usize, decided.survivors, 0])
+        }
+        (Call::WriteSheet { .. }, [marks, placement, sheet]) => {
+            zegbiko::write_sheet(book, marks.contents_mut(), placement.contents_mut(), sheet.contents_mut())
+                .map(|length| [length, 0, 0])
+        }
+        (Call::WorkOut { .. }, [grid]) => zegbiko::work_out(book, sheet, grid.contents_mut()).map(|v| match v {
+            zegbiko::Verdict::Meets => [0, 0, 0],
+            zegbiko::Verdict::BreaksRule { rule, element } => [1, rule, element],
+            zegbiko::Verdict::BreaksMembership { claim } => [2, claim, 0],
+            zegbiko::Verdict::BreaksLink { claim } => [3, claim, 0],
+        }),
+        (Call::Grade { candidate, term }, _) => zegbiko::grade(book, candidate, term).map(|g| [g.into(), 0, 0]),
+        (Call::Link { role, from, to }, _) => zegbiko::link(book, role, from, to).map(|link| [link.into(), 0, 0]),
+        _ => unreachable!("a call comes with its buffers"),
+    };
+    answer(result.map_err(zegbiko::Refusal::number))
+}
+
+/// The library, by the C calls: a refused one must have 0 in every other field.
+pub fn raw(book: &[u8], sheet: &[u8], call: Call, buffers: &mut [Buffer]) -> Answer {
+    let (pointer, length) = (book.as_ptr(), book.len());
+    let out = |buffer: &mut Buffer| (buffer.contents_mut().as_mut_ptr(), buffer.contents().len());
+    // SAFETY: each pointer and length is that of one slice, and no two of them overlap.
+    unsafe {
+        match (call, buffers) {
+            (Call::Check, _) => [raw::zegbiko_check(pointer, length).into(), 0, 0, 0],
+            (Call::Count, _) => {
+                let counted = raw::zegbiko_count(pointer, length);
+                [counted.refusal.into(), counted.candidates as usize, 0, 0]
+            }
+            (Call::Decide { .. }, [marks, placement]) => {
+                let ((m, m_length), (p, p_length)) = (out(marks), out(placement));
+                let decided = raw::zegbiko_decide(pointer, length, m, m_length, p, p_length);
+                [decided.refusal.into(), decided.outcome.into(), decided.survivors, 0]
+            }
+            (Call::WriteSheet { .. }, [marks, placement, sheet]) => {
+                let ((m, m_length), (p, p_length), (s, s_length)) = (out(marks), out(placement), out(sheet));
+                let written = raw::zegbiko_write_sheet(pointer, length, m, m_length, p, p_length, s, s_length);
+                [written.refusal.into(), written.length, 0, 0]
+            }
+            (Call::WorkOut { .. }, [grid]) => {
+                let (g, g_length) = out(grid);
+                let worked = raw::zegbiko_work_out(pointer, length, sheet.as_ptr(), sheet.len(), g, g_length);
+                [worked.refusal.into(), worked.verdict.into(), worked.number, worked.element]
+            }
+            (Call::Grade { candidate, term }, _) => {
+                let graded = raw::zegbiko_grade(pointer, length, candidate, term);
+                [graded.refusal.into(), graded.grade.into(), 0, 0]
+            }
+            (Call::Link { role, from, to }, _) => {
+                let graded = raw::zegbiko_link(pointer, length, role, from, to);
+                [graded.refusal.into(), graded.grade.into(), 0, 0]
+            }
+            _ => unreachable!("a call comes with its buffers"),
+        }
+    }
+}
