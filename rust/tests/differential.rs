@@ -1,0 +1,299 @@
+//! Every call of the library against the plain implementation, on seeded books and sheets.
+//!
+//! `ZEGBIKO_SEED` gives another seed, `ZEGBIKO_CASES` another number of cases; `ZEGBIKO_CASE` runs that one alone.
+
+mod generate;
+mod plain;
+mod support;
+
+use std::collections::{BTreeMap, BTreeSet};
+use std::env;
+use std::hint::black_box;
+use std::thread;
+use std::time::Instant;
+
+use generate::damage::damaged;
+use generate::random::Random;
+use generate::{books, sheets};
+use plain::book::{Book, Term};
+use plain::Plain;
+use support::buffer::Buffer;
+use support::calls::{self, Answer, Call};
+
+const SEED: u64 = 1;
+const CASES: u64 = 100_000;
+
+/// A book that takes more trials of seats than this is not decided.
+const MOST_TRIALS: usize = 100_000;
+
+#[test]
+fn library_and_plain_implementation_agree() {
+    let (seed, cases) = (setting("ZEGBIKO_SEED").unwrap_or(SEED), setting("ZEGBIKO_CASES").unwrap_or(CASES));
+    if let Some(number) = setting("ZEGBIKO_CASE") {
+        Case::run(seed, number, &mut Tally::new());
+        println!("seed {seed}: case {number} agrees");
+        return;
+    }
+    let start = Instant::now();
+    let workers = thread::available_parallelism().map_or(1, usize::from);
+    let work = |worker: usize| {
+        let mut tally = Tally::new();
+        (worker as u64..cases).step_by(workers).for_each(|number| Case::run(seed, number, &mut tally));
+        tally
+    };
+    // These threads have Rust's default stack of 2 MB, which the wrapper says suffices.
+    let tally = thread::scope(|scope| {
+        let threads: Vec<_> = (0..workers).map(|worker| scope.spawn(move || work(worker))).collect();
+        threads.into_iter().map(|thread| thread.join().expect("no difference")).fold(Tally::new(), Tally::join)
+    });
+    println!("seed {seed}: {cases} cases agree, in {:.1} s", start.elapsed().as_secs_f64());
+    tally.print();
+    tally.demand_all();
+}
+
+fn setting(name: &str) -> Option<u64> {
+    env::var(name).ok().map(|value| value.parse().unwrap_or_else(|_| panic!("{name} is no number: {value}")))
+}
+
+/// One book with many calls on it.
+struct Case<'a> {
+    seed: u64,
+    number: u64,
+    random: Random,
+    book: Vec<u8>,
+    plain: Plain,
+    tally: &'a mut Tally,
+}
+
+impl Case<'_> {
+    fn run(seed: u64, number: u64, tally: &mut Tally) {
+        let mut random = Random::of(seed, number);
+        let book = books::any(&mut random);
+        let plain = Plain::open(&book, MOST_TRIALS);
+        let mut case = Case { seed, number, random, book, plain, tally };
+        case.note_the_book();
+        case.compare(Call::Check, &[]);
+        case.compare(Call::Count, &[]);
+        case.compare_candidates();
+        case.compare_deciding();
+        case.compare_sheets();
+    }
+
+    fn name(&self) -> String {
+        format!("seed {} case {}, book {}", self.seed, self.number, hex(&self.book))
+    }
+
+    /// Counts books of the special kinds; each kind has to occur.
+    fn note_the_book(&mut self) {
+        let mut note = |name: &str, seen| self.tally.add(&format!("books {name}"), seen);
+        note("of 18 bytes", self.book.len() == 18);
+        note("of 850 bytes", self.book.len() == 850);
+        let Ok(book) = self.plain.book() else { return };
+        (1..=8).for_each(|steps| note(&format!("accepted, N {steps}"), book.steps == steps));
+        note("accepted, a gap in the names", names(book).len() < book.names());
+        note("accepted, three roles or more in terms", roles(book).len() >= 3);
+        note("accepted, an individual that no claim mentions", individuals(book).len() < book.individuals());
+        let Ok(eliminated) = self.plain.eliminated() else { return };
+        note("of 16,384 candidates", self.plain.count() == Ok(16_384));
+        [1, 2, 4, 8, 16].iter().for_each(|&n| note(&format!("of {n:2} sweeps or more"), eliminated.sweeps >= n));
+        (64..=65).for_each(|n| note(&format!("of {n} survivors"), eliminated.survivors.len() == n));
+    }
+
+    fn compare_candidates(&mut self) {
+        let count = self.plain.count().unwrap_or(9);
+        let terms = self.plain.book().map_or(9, |book| book.terms.len());
+        for _ in 0..4 {
+            let (candidate, term) = (self.index(count), self.index(terms));
+            self.compare(Call::Grade { candidate, term }, &[]);
+            let role = if self.random.one_in(8) { self.random.pick(&[8, 9, 255]) } else { self.random.up_to(7) };
+            let (from, to) = (self.index(count), self.index(count));
+            self.compare(Call::Link { role, from, to }, &[]);
+        }
+    }
+
+    fn compare_deciding(&mut self) {
+        if self.plain.gives_up() {
+            self.tally.add("books not decided, too many trials", true);
+            return;
+        }
+        let (marks, placement) = self.deciding_lengths();
+        let ([refusal, outcome, ..], buffers) = self.compare(Call::Decide { marks, placement }, &[]);
+        if refusal == 0 {
+            self.note_the_placement(outcome, buffers[1].contents());
+        }
+        self.compare_writing();
+    }
+
+    fn note_the_placement(&mut self, outcome: usize, placement: &[u8]) {
+        let (Ok(book), Ok(eliminated)) = (self.plain.book(), self.plain.eliminated()) else { return };
+        let seats = book.seats(&eliminated.survivors);
+        let first: Option<Vec<usize>> = seats.iter().map(|seats| seats.first().copied()).collect();
+        let Some(first) = first else { return };
+        let at_first = first.iter().zip(placement.chunks(2)).all(|(&seat, place)| (seat as u16).to_be_bytes() == place);
+        self.tally.add("outcome 1, not every individual at its first seat", outcome == 1 && !at_first);
+        self.tally.add("outcome 2, although every individual has a seat", outcome == 2);
+    }
+
+    fn compare_writing(&mut self) {
+        let length = match (self.plain.book(), self.plain.eliminated()) {
+            (Ok(book), Ok(eliminated)) => {
+                let n = eliminated.survivors.len().min(64);
+                12 + n * book.names() + book.roles() * n * n + book.individuals()
+            }
+            _ => 12,
+        };
+        let ((marks, placement), sheet) = (self.deciding_lengths(), self.near(length));
+        let ([refusal, length, ..], buffers) = self.compare(Call::WriteSheet { marks, placement, sheet }, &[]);
+        if refusal == 0 {
+            self.tally.add("sheets written, the longest", length == zegbiko::SHEET);
+            let written = buffers[2].contents()[..length].to_vec();
+            let answer = self.compare_sheet(&written);
+            assert!(matches!(answer, [0, 0, ..] | [16, ..]), "{}: a written sheet meets its book", self.name());
+            let other = damaged(&mut self.random, written);
+            self.compare_sheet(&other);
+        }
+    }
+
+    fn deciding_lengths(&mut self) -> (usize, usize) {
+        let count = self.plain.count().unwrap_or(9);
+        (self.near(count), self.near(zegbiko::PLACEMENT))
+    }
+
+    fn compare_sheets(&mut self) {
+        for _ in 0..3 {
+            let sheet = match self.plain.book() {
+                Ok(book) => sheets::any(&mut self.random, book),
+                Err(_) => self.random.bytes(12),
+            };
+            self.compare_sheet(&sheet);
+        }
+    }
+
+    fn compare_sheet(&mut self, sheet: &[u8]) -> Answer {
+        let elements = sheet.get(2).map_or(0, |&n| usize::from(n));
+        let terms = self.plain.book().map_or(0, |book| book.terms.len());
+        let grid = self.near(elements * terms);
+        self.compare(Call::WorkOut { grid }, sheet).0
+    }
+
+    /// A length, most often just sufficient, or a little shorter or longer.
+    fn near(&mut self, length: usize) -> usize {
+        match self.random.below(16) {
+            0 => length.saturating_sub(1),
+            1 => self.random.below(length + 1),
+            2 | 3 => length + 1,
+            4..=6 => length + self.random.below(40),
+            _ => length,
+        }
+    }
+
+    /// A number, most often below the bound.
+    fn index(&mut self, bound: usize) -> usize {
+        match self.random.below(16) {
+            0 => bound,
+            1 => self.random.pick(&[bound + 1, bound + 256, 1 << 32, 1 << 63, usize::MAX]),
+            2 | 3 => bound.saturating_sub(1),
+            _ => self.random.below(bound.max(1)),
+        }
+    }
+
+    /// Makes a call of both sides on buffers that held the same, and gives the answer and the buffers after it.
+    fn compare(&mut self, call: Call, sheet: &[u8]) -> (Answer, Vec<Buffer>) {
+        let held: Vec<_> = call.lengths().into_iter().map(|length| self.random.bytes(length)).collect();
+        let buffers = |margin| -> Vec<_> { held.iter().map(|bytes| Buffer::new(bytes, margin)).collect() };
+        let mut expected = buffers(0);
+        let answer = calls::plain(&self.plain, sheet, call, &mut expected);
+        let margin = 1 + self.random.below(64);
+        for (library, margin) in [(calls::wrapped as calls::Side, margin), (calls::raw, 0)] {
+            let inputs = [&self.book, sheet].map(|bytes| Buffer::new(bytes, margin));
+            let mut found = buffers(margin);
+            let found_answer = library(inputs[0].contents(), inputs[1].contents(), call, &mut found);
+            // A shared slice must not change; the compiler may not rely on it here, where just that is in question.
+            let (inputs, found) = black_box((inputs, found));
+
+            let mut differences = Vec::new();
+            if found_answer != answer {
+                differences.push(format!("plain answers {answer:?}, the library {found_answer:?}"));
+            }
+            for (number, (plain, library)) in expected.iter().zip(&found).enumerate() {
+                let mut bytes = plain.contents().iter().zip(library.contents());
+                if let Some(at) = bytes.position(|(plain, library)| plain != library) {
+                    differences.push(format!("buffer {number} differs from byte {at} on"));
+                }
+            }
+            if inputs[0].contents() != self.book || inputs[1].contents() != sheet {
+                differences.push("an input is changed".into());
+            }
+            if !inputs.iter().chain(&found).all(Buffer::margins_kept) {
+                differences.push("a margin is changed".into());
+            }
+            let differences = differences.join("; ");
+            assert!(differences.is_empty(), "{}: {call:?}: {differences}\nsheet {}", self.name(), hex(sheet));
+        }
+        self.tally.add_answer(call, answer);
+        (answer, expected)
+    }
+}
+
+fn names(book: &Book) -> BTreeSet<u8> {
+    let name = |term: &Term| if let Term::Name(name) = *term { Some(name) } else { None };
+    book.terms.iter().filter_map(name).collect()
+}
+
+fn roles(book: &Book) -> BTreeSet<u8> {
+    let role = |term: &Term| if let Term::Some(role, _) | Term::All(role, _) = *term { Some(role) } else { None };
+    book.terms.iter().filter_map(role).collect()
+}
+
+fn individuals(book: &Book) -> BTreeSet<usize> {
+    let linked = book.links.iter().flat_map(|claim| [claim.from, claim.to]);
+    book.memberships.iter().map(|claim| claim.individual).chain(linked).collect()
+}
+
+fn hex(bytes: &[u8]) -> String {
+    bytes.iter().map(|byte| format!("{byte:02X}")).collect::<Vec<_>>().join(" ")
+}
+
+/// How often each thing was seen. What is named here with 0 must be seen in the end.
+struct Tally(BTreeMap<String, usize>);
+
+impl Tally {
+    fn new() -> Tally {
+        let refusals = (1..=21).map(|number| format!("refusal {number:2}"));
+        let outcomes = (1..=3).map(|number| format!("outcome {number}"));
+        let verdicts = (0..=3).map(|number| format!("verdict {number}"));
+        Tally(refusals.chain(outcomes).chain(verdicts).map(|name| (name, 0)).collect())
+    }
+
+    fn add(&mut self, name: &str, seen: bool) {
+        *self.0.entry(name.into()).or_default() += usize::from(seen);
+    }
+
+    fn add_answer(&mut self, call: Call, [refusal, first, ..]: Answer) {
+        self.add(&format!("call {}", call.name()), true);
+        match call {
+            _ if refusal != 0 => self.add(&format!("refusal {refusal:2}"), true),
+            Call::Decide { .. } => self.add(&format!("outcome {first}"), true),
+            Call::WorkOut { .. } => self.add(&format!("verdict {first}"), true),
+            _ => {}
+        }
+    }
+
+    fn join(mut self, other: Tally) -> Tally {
+        for (name, count) in other.0 {
+            *self.0.entry(name).or_default() += count;
+        }
+        self
+    }
+
+    fn print(&self) {
+        for (name, count) in &self.0 {
+            println!("{count:9} {name}");
+        }
+    }
+
+    fn demand_all(&self) {
+        let missing: Vec<_> = self.0.iter().filter(|(_, count)| **count == 0).map(|(name, _)| name).collect();
+        assert!(missing.is_empty(), "never seen: {missing:?}");
+    }
+}

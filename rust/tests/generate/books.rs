@@ -1,0 +1,257 @@
+//! Books. Those that are decided have few candidates, or rules that leave few, so that the plain implementation ends.
+
+use super::damage::damaged;
+use super::random::Random;
+use crate::support::draft::{Draft, ALL, AND, BOTTOM, NAME, NOT, OR, SOME, TOP};
+
+const MOST_CANDIDATES: usize = 16_384;
+
+/// Any book: one in four damaged, the others right but for those past a limit.
+pub fn any(random: &mut Random) -> Vec<u8> {
+    let book = match random.below(200) {
+        0..=74 => mixed(random),
+        75..=89 => web(random),
+        90..=99 => chain(random),
+        100..=109 => counter(random),
+        110..=124 => full(random),
+        125..=134 => of_64_survivors(random),
+        135 => widest(random),
+        136..=139 => too_wide(random),
+        140..=141 => Draft::new(steps(random)),
+        142..=144 => too_many(random),
+        _ => {
+            let book = random.pick(&[mixed, mixed, chain, full])(random);
+            return damaged(random, book.bytes());
+        }
+    };
+    book.bytes()
+}
+
+fn steps(random: &mut Random) -> u8 {
+    1 + random.up_to(7)
+}
+
+/// The most places with which a book of these steps has at most so many candidates.
+fn places_within(steps: u8, candidates: usize) -> usize {
+    candidates.ilog(usize::from(steps) + 1) as usize
+}
+
+/// Terms of all kinds in any order, with rules and claims.
+fn mixed(random: &mut Random) -> Draft {
+    let mut book = Draft::new(steps(random));
+    let candidates = if random.one_in(20) { 1000 } else { random.pick(&[9, 32, 81, 81, 260, 260]) };
+    let places = random.below(places_within(book.steps, candidates) + 1);
+    let roles = [random.up_to(7), random.up_to(7), random.up_to(7)];
+    let mut left = places;
+    let count = places + random.below(8);
+    for number in 0..count {
+        if random.below(count - number) < left {
+            left -= 1;
+            add_place(random, &mut book, &roles);
+        } else {
+            add_connective(random, &mut book);
+        }
+    }
+    add_rules(random, &mut book);
+    add_claims(random, &mut book, &roles);
+    book
+}
+
+/// Adds a name that the book does not have yet, or a quantified term.
+fn add_place(random: &mut Random, book: &mut Draft, roles: &[u8]) -> u8 {
+    let free: Vec<u8> = (0..16).filter(|&name| !book.terms.contains(&[NAME, name, 0])).collect();
+    let name = book.terms.is_empty() || (!free.is_empty() && random.one_in(3));
+    if name {
+        book.term(NAME, random.pick(&free), 0)
+    } else {
+        book.term(random.pick(&[SOME, ALL]), random.pick(roles), child(random, book))
+    }
+}
+
+fn add_connective(random: &mut Random, book: &mut Draft) {
+    let kind = random.pick(&[NOT, NOT, AND, OR, TOP, BOTTOM]);
+    match kind {
+        NOT if !book.terms.is_empty() => book.term(NOT, child(random, book), 0),
+        AND | OR if !book.terms.is_empty() => book.term(kind, child(random, book), child(random, book)),
+        _ => book.term(random.pick(&[TOP, BOTTOM]), 0, 0),
+    };
+}
+
+/// Any term, or, as often, the last.
+fn child(random: &mut Random, book: &Draft) -> u8 {
+    let last = book.terms.len() as u8 - 1;
+    if random.one_in(2) {
+        last
+    } else {
+        random.up_to(last)
+    }
+}
+
+fn add_rules(random: &mut Random, book: &mut Draft) {
+    if book.terms.is_empty() {
+        return;
+    }
+    for _ in 0..random.pick(&[0, 0, 1, 1, 2, 3, 4]) {
+        book.rules.push([any_term(random, book), any_term(random, book)]);
+    }
+}
+
+fn any_term(random: &mut Random, book: &Draft) -> u8 {
+    random.below(book.terms.len()) as u8
+}
+
+/// Claims about some of the individuals, up to any of the eight.
+fn add_claims(random: &mut Random, book: &mut Draft, roles: &[u8]) {
+    let mentioned: Vec<u8> = (0..1 + random.below(4)).map(|_| random.pick(&[0, 0, 1, 1, 2, 3, 5, 7])).collect();
+    if !book.terms.is_empty() {
+        for _ in 0..random.pick(&[0, 1, 1, 2, 3, 5]) {
+            let (individual, term) = (random.pick(&mentioned), any_term(random, book));
+            book.memberships.push([individual, term, random.up_to(1), random.up_to(book.steps)]);
+        }
+    }
+    for _ in 0..random.pick(&[0, 0, 1, 1, 2, 4]) {
+        let role = if random.one_in(8) { random.up_to(7) } else { random.pick(roles) };
+        book.links.push([role, random.pick(&mentioned), random.pick(&mentioned), random.up_to(book.steps)]);
+    }
+}
+
+/// A0 under "some r A1", A1 under "some r A2" .. and the last one under bottom: each sweep takes one more name away.
+fn chain(random: &mut Random) -> Draft {
+    let length = random.pick(&[2, 3, 3, 4]);
+    let mut book = Draft::new(if length > 3 { 1 } else { random.pick(&[1, 2]) });
+    let roles = [random.up_to(7), random.up_to(7)];
+    let names: Vec<u8> = (0..length).map(|i| book.term(NAME, i, 0)).collect();
+    for pair in names.windows(2) {
+        let next = book.term(SOME, random.pick(&roles), pair[1]);
+        book.rules.push([pair[0], next]);
+    }
+    let bottom = book.term(BOTTOM, 0, 0);
+    book.rules.push([names[names.len() - 1], bottom]);
+    add_claims(random, &mut book, &roles);
+    book
+}
+
+/// A binary counter: an element is linked only to such as have, at least, the bits of the next number, and the greatest
+/// number is ruled out, so a sweep takes one number away. Half of them lack one of these rules.
+fn counter(random: &mut Random) -> Draft {
+    let mut book = Draft::new(1);
+    let role = random.up_to(7);
+    let (top, bottom) = (book.term(TOP, 0, 0), book.term(BOTTOM, 0, 0));
+    let linked = book.term(SOME, role, top);
+    book.rules.push([top, linked]);
+    let mut carry = top;
+    for number in 0..random.pick(&[2, 3, 4, 4, 5]) {
+        let bit = book.term(NAME, number, 0);
+        let next = book.term(ALL, role, bit);
+        let (either, both) = (book.term(OR, bit, carry), book.term(AND, bit, carry));
+        let not_both = book.term(NOT, both, 0);
+        let flipped = book.term(AND, either, not_both);
+        book.rules.extend([[next, flipped], [flipped, next]]);
+        carry = both;
+    }
+    book.rules.push([carry, bottom]);
+    if random.one_in(2) {
+        book.rules.swap_remove(random.below(book.rules.len()));
+    }
+    add_claims(random, &mut book, &[role]);
+    book
+}
+
+/// Few candidates and several individuals, with claims that say something on links for which quantified terms speak.
+fn web(random: &mut Random) -> Draft {
+    let mut book = Draft::new(random.pick(&[1, 1, 2, 3]));
+    let role = random.up_to(7);
+    for _ in 0..places_within(book.steps, 16) {
+        add_place(random, &mut book, &[role]);
+    }
+    let last = random.pick(&[1, 2, 3]);
+    for individual in 0..=last {
+        let (term, sense) = (any_term(random, &book), random.up_to(1));
+        let grade = 1 - sense + random.up_to(book.steps - 1);
+        book.memberships.push([individual, term, sense, grade]);
+        for _ in 0..2 {
+            book.links.push([role, individual, random.up_to(last), 1 + random.up_to(book.steps - 1)]);
+        }
+    }
+    book
+}
+
+/// 850 bytes: a book filled up to 64 records in each section with such as change nothing.
+fn full(random: &mut Random) -> Draft {
+    let mut book = mixed(random);
+    while book.terms.len() < 64 {
+        add_connective(random, &mut book);
+    }
+    while book.rules.len() < 64 {
+        let term = any_term(random, &book);
+        book.rules.push([term, term]);
+    }
+    while book.memberships.len() < 64 {
+        let (term, sense) = (any_term(random, &book), random.up_to(1));
+        book.memberships.push([0, term, sense, sense * book.steps]);
+    }
+    while book.links.len() < 64 {
+        book.links.push([random.up_to(7), 0, 0, 0]);
+    }
+    book
+}
+
+/// A book with 65 records in one section.
+fn too_many(random: &mut Random) -> Draft {
+    let mut book = mixed(random);
+    match random.below(4) {
+        0 => book.terms.resize(65, [TOP, 0, 0]),
+        1 => book.rules.resize(65, [0, 0]),
+        2 => book.memberships.resize(65, [0; 4]),
+        _ => book.links.resize(65, [0; 4]),
+    }
+    book
+}
+
+/// Just 64 survivors, or 65; half of them with the highest name, role and individual, so that the sheet is the longest.
+fn of_64_survivors(random: &mut Random) -> Draft {
+    let (steps, places) = random.pick(&[(1, 6), (3, 3), (7, 2)]);
+    let mut book = Draft::new(steps);
+    let top = book.term(TOP, 0, 0);
+    // A name and, for a role of its own, "some r top" may each have any grade, whatever the others have.
+    let free: Vec<u8> = (0..places)
+        .map(|i| if random.one_in(3) { book.term(SOME, i, top) } else { book.term(NAME, 15 - i, 0) })
+        .collect();
+    if steps == 1 && random.one_in(2) {
+        // The 65th: a name that is graded 0 unless all others are graded 1.
+        let all = book.term(NAME, 0, 0);
+        book.rules = free.iter().map(|&other| [all, other]).collect();
+    }
+    if random.one_in(2) {
+        book.links.push([7, 7, random.up_to(7), random.up_to(steps)]);
+    }
+    book
+}
+
+/// As many places as are accepted. Without rules all of them are names; else rules hold most places to one grade.
+fn widest(random: &mut Random) -> Draft {
+    let mut book = Draft::new(random.pick(&[1, 1, 1, 3, 3, 3, 2, 4, 5, 6, 7, 8]));
+    let places = places_within(book.steps, MOST_CANDIDATES);
+    if random.one_in(3) {
+        book.terms = (0..places as u8).map(|name| [NAME, name, 0]).collect();
+        return book;
+    }
+    let (bottom, top) = (book.term(BOTTOM, 0, 0), book.term(TOP, 0, 0));
+    let free = places_within(book.steps, 81);
+    for place in 0..places {
+        let term = add_place(random, &mut book, &[0, 1]);
+        if place >= free {
+            book.rules.push(random.pick(&[[term, bottom], [top, term]]));
+        }
+    }
+    book
+}
+
+/// A place more than is accepted, or several.
+fn too_wide(random: &mut Random) -> Draft {
+    let mut book = Draft::new(steps(random));
+    for _ in 0..places_within(book.steps, MOST_CANDIDATES) + random.pick(&[1, 1, 1, 2, 50]) {
+        add_place(random, &mut book, &[0, 1]);
+    }
+    book
+}

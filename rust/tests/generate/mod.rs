@@ -1,0 +1,6 @@
+//! Seeded books and sheets: right ones of every kind, ones at the limits, and damaged ones.
+
+pub mod books;
+pub mod damage;
+pub mod random;
+pub mod sheets;
