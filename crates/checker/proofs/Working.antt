@@ -7,8 +7,7 @@ use mathlib.Core.List.{List, [], _++_}
 use Prim.Native.Nat.{ℕ, _*_, _≤_, max}
 use native.Mathlib.Decide.{decLe}
 use native.Mathlib.Omega.{arith}
-use native.Mathlib.Nat.{le-of-eq}
-use lib.ListN.{length, drop, replicate, length-replicate}
+use lib.ListN.{length, drop}
 use Rattle.chain.specs.Lists.{highest}
 use Rattle.chain.specs.Questions.{firstNo}
 use Rattle.chain.proofs.Questions.{first-empty, first-yes, first-no, first-some-append, first-none-append}
@@ -164,10 +163,6 @@ module _ (b t : List ℕ) (s : Sections) (ok : Right b s) where
   pub sheet-asked : (n A R I : ℕ) → A ≡ Names → R ≡ Roles → I ≡ Individuals
       → firstNo (sheetQuestions t (shapeOf t) (s .steps) A R I) ≡ some n → firstNo (bookSheetQuestions b t) ≡ some n
   sheet-asked n = by-counts (λ N A R I. firstNo (sheetQuestions t (shapeOf t) N A R I) ≡ some n)
-
--- a local array of k zeros is k long, whatever k
-pub zeros-long : (k : ℕ) → k ≤ length (replicate {A = ℕ} k 0)
-zeros-long k = le-of-eq (sym (length-replicate k 0))
 
 -- an answer's number is the first no
 pub workedNumber-is : (b t : List ℕ) (g : ℕ) → workedNumber (workedOf b t g) ≡ firstNo (workQuestions b t g)

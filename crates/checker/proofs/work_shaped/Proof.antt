@@ -5,10 +5,11 @@ use native.Mathlib.Nat.{mul-le-mul}
 use native.Mathlib.Omega.{arith}
 use lib.ListN.{length}
 use borrow.Author.Needs.{needs}
+use Rattle.chain.proofs.Lists.{zeros-long}
 use Rattle.book.proofs.Opening.{right-ordered}
 use Rattle.book.proofs.Reading.{right-few}
 use Rattle.checker.specs.declared.Worked.the-variants.{Says}
-use Rattle.checker.proofs.Working.{work-16, work-none, worked-refused, worked-says, grid-refused, grid-worked, size-is, zeros-long}
+use Rattle.checker.proofs.Working.{work-16, work-none, worked-refused, worked-says, grid-refused, grid-worked, size-is}
 use Rattle.checker.proofs.work_shaped.Statement.{statement}
 use Rattle.checker.proofs.work_shaped.Tie as tie
 
