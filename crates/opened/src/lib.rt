@@ -28,6 +28,14 @@ pub fn hold<'a>(bytes: &'a [u8], sections: Sections) -> Book<'a>
 }
 
 impl<'a> Book<'a> {
+    // The number of candidates.
+    pub fn count(self) -> Counted
+        requires { ⌜ Right (now (self .bytes)) (self .sections) ⌝ }
+        ensures { λ r. ⌜ r ≡ countedOf (now (self .entry .bytes)) ⌝ }
+    {
+        book::count_in(self.bytes, self.sections)
+    }
+
     // The grade of term `i` in candidate `c`.
     pub fn grade(self, c: usize, i: usize) -> Answer
         requires { ⌜ Right (now (self .bytes)) (self .sections) ⌝ }
