@@ -14,6 +14,8 @@ use crate::buffers::begins;
 use crate::buffers::is_said;
 use crate::buffers::kept;
 use crate::buffers::marked;
+use book::Opened;
+use decider::Decision;
 use reports::text;
 use reports::text::Row;
 use reports::text::cell;
@@ -33,7 +35,18 @@ fn part_end(line: &[u8], from: usize) -> usize
     from
 }
 
-fn decide(book: &[u8], r: Row, marks: &mut [u8], placement: &mut [u8]) -> Answer {
+// Of an opened book, or of its bytes.
+fn decide_by(opened: bool, b: &[u8], marks: &mut [u8], placement: &mut [u8]) -> Decision {
+    if !opened {
+        return decider::decide(b, marks, placement);
+    }
+    match book::open(b) {
+        Opened::Refused(n) => Decision::Refused(n),
+        Opened::Accepted(s) => opened::decide(b, s, marks, placement),
+    }
+}
+
+fn decide(opened: bool, book: &[u8], r: Row, marks: &mut [u8], placement: &mut [u8]) -> Answer {
     let m = cell(r, 0);
     let p = cell(r, 1);
     if marks.len() < m {
@@ -42,18 +55,29 @@ fn decide(book: &[u8], r: Row, marks: &mut [u8], placement: &mut [u8]) -> Answer
     if placement.len() < p {
         return answered(NO_CALL, 0, 0);
     }
-    of_decision(decider::decide(book, &mut marks[0..m], &mut placement[0..p]))
+    of_decision(decide_by(opened, book, &mut marks[0..m], &mut placement[0..p]))
 }
 
-// Marks' room, placement's room -> number, outcome, survivors, candidates.
-fn decide_right(book: &[u8], r: Row, said_marks: &[u8], said_placement: &[u8]) -> bool {
+fn decided_right(
+    opened: bool,
+    book: &[u8],
+    r: Row,
+    said_marks: &[u8],
+    said_placement: &[u8],
+) -> bool {
     let mut marks = buffers::marks();
     let mut placement = buffers::placement();
-    let a = decide(book, r, &mut marks, &mut placement);
+    let a = decide(opened, book, r, &mut marks, &mut placement);
     same(a, answered(cell(r, 2), cell(r, 3), cell(r, 4)))
         && marked(&marks, cell(r, 4), cell(r, 5))
         && begins(&marks, said_marks)
         && is_said(&placement, said_placement)
+}
+
+// Marks' room, placement's room -> number, outcome, survivors, candidates.
+fn decide_right(book: &[u8], r: Row, said_marks: &[u8], said_placement: &[u8]) -> bool {
+    decided_right(false, book, r, said_marks, said_placement)
+        && decided_right(true, book, r, said_marks, said_placement)
 }
 
 fn write(book: &[u8], r: Row, marks: &mut [u8], placement: &mut [u8], sheet: &mut [u8]) -> Answer {
