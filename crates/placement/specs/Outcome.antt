@@ -9,7 +9,7 @@ use native.Mathlib.Decide.{decLe}
 use lib.ListN.{getD}
 use Rattle.chain.specs.Decisions.{dec-and}
 use Rattle.chain.specs.Lists.{Each, each?, index}
-use Rattle.semantics.specs.Interpretations.{Interpretation}
+use Rattle.semantics.specs.Interpretations.{Grading, Interpretation}
 use Rattle.semantics.specs.Books.{Book, MembershipClaim, LinkClaim, Claimed, claimed?, individuals}
 use Rattle.semantics.specs.Candidates.{gradeIn}
 use Rattle.semantics.specs.Links.{link}
@@ -21,6 +21,13 @@ use Rattle.placement.specs.Dictionary.{seek}
 abbrev pub seat : List ℕ → ℕ → ℕ
 seat p j = getD p j 0
 
+-- a membership claim is met with its individual at candidate c; a link claim with individual j at candidate s j
+abbrev pub MembershipMet : Grading → ℕ → MembershipClaim → Type 0
+MembershipMet G c q = Claimed (q .sense) (q .grade) (gradeIn G c (q .term))
+
+abbrev pub LinkMet : Grading → (ℕ → ℕ) → LinkClaim → Type 0
+LinkMet G s q = q .grade ≤ link G (q .role) (s (q .source)) (s (q .target))
+
 module _ (B : Book) where
   -- the candidates that survive the book's rules
   abbrev pub survivorsOf : List ℕ
@@ -28,10 +35,10 @@ module _ (B : Book) where
 
   -- with individual j at candidate s j, a claim is met
   abbrev pub HoldsMembership : (ℕ → ℕ) → MembershipClaim → Type 0
-  HoldsMembership s q = Claimed (q .sense) (q .grade) (gradeIn (B .grading) (s (q .individual)) (q .term))
+  HoldsMembership s q = MembershipMet (B .grading) (s (q .individual)) q
 
   abbrev pub HoldsLink : (ℕ → ℕ) → LinkClaim → Type 0
-  HoldsLink s q = q .grade ≤ link (B .grading) (q .role) (s (q .source)) (s (q .target))
+  HoldsLink = LinkMet (B .grading)
 
   abbrev pub Holds : (ℕ → ℕ) → Type 0
   Holds s = Each (HoldsMembership s) (B .memberships) × Each (HoldsLink s) (B .links)

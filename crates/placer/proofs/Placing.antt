@@ -19,11 +19,11 @@ use Rattle.sections.specs.Books.{bookOfSections}
 use Rattle.elimination.specs.Marks.{Marked, marked}
 use Rattle.elimination.proofs.Marks.{marked-mem, marked-ascending}
 use Rattle.placement.specs.Dictionary.{Drawn, Finds}
-use Rattle.placement.specs.Outcome.{seat, HoldsMembership, HoldsLink, HoldsAt, placementAmong}
+use Rattle.placement.specs.Outcome.{seat, HoldsMembership, HoldsLink, HoldsAt, placementAmong, MembershipMet, LinkMet}
 use Rattle.placement.proofs.Dictionary.{finds-same}
 use Rattle.placement.proofs.Outcome.{among-finds}
 use Rattle.placer.specs.Walk.{walk, placed}
-use Rattle.placer.specs.Claims.{gradingOf, latest, MembershipMet, LinkMet, Alone}
+use Rattle.placer.specs.Claims.{gradingOf, latest, Alone}
 use Rattle.placer.specs.Filter.{Allowed, Filtered, Vain}
 use Rattle.placer.specs.Seats.{May, may?, walkOf}
 use Rattle.placer.proofs.Walk.{placed-false, finds-map, Follows, walk-finds, follows-at, follows-made}

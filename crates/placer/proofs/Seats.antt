@@ -17,9 +17,9 @@ use Rattle.sections.specs.Claims.{claimCount, linkAt, LinksRight}
 use Rattle.sections.proofs.Terms.{terms-ordered}
 use Rattle.grades.specs.Rows.{rowAt}
 use Rattle.grades.proofs.Rows.{rows-link}
-use Rattle.placement.specs.Outcome.{seat}
+use Rattle.placement.specs.Outcome.{seat, LinkMet}
 use Rattle.placer.specs.Walk.{walk}
-use Rattle.placer.specs.Claims.{gradingOf, latest, LinkMet}
+use Rattle.placer.specs.Claims.{gradingOf, latest}
 use Rattle.placer.specs.Filter.{Allowed}
 use Rattle.placer.specs.Rows.{RowIn}
 use Rattle.placer.specs.Seats.{May, may?, walkOf, LinkBy, SeatedRows}

@@ -4,10 +4,9 @@ use mathlib.Core.Path.{_≡_}
 use mathlib.Core.List.{List}
 use Prim.Native.Nat.{ℕ, _≤_, _<_, max}
 use lib.ListN.{length}
+use Rattle.placement.specs.Outcome.{MembershipMet, LinkMet}
 use Rattle.semantics.specs.Interpretations.{Grading, graded}
-use Rattle.semantics.specs.Books.{MembershipClaim, LinkClaim, Claimed}
-use Rattle.semantics.specs.Candidates.{gradeIn}
-use Rattle.semantics.specs.Links.{link}
+use Rattle.semantics.specs.Books.{LinkClaim}
 use Rattle.sections.specs.Terms.{termCount, termsOf}
 use Rattle.sections.specs.Claims.{claimCount, membershipAt, linkAt}
 use Rattle.grades.specs.Rows.{HasGrades}
@@ -24,13 +23,6 @@ pub record RowFor (N : ℕ) (ts : List ℕ) (c : ℕ) (row : List ℕ) : Type 0 
 -- the last of the two individuals that a link claim mentions
 abbrev pub latest : LinkClaim → ℕ
 latest q = max (q .source) (q .target)
-
--- a membership claim is met with its individual at candidate c; a link claim with individual j at candidate s j
-abbrev pub MembershipMet : Grading → ℕ → MembershipClaim → Type 0
-MembershipMet G c q = Claimed (q .sense) (q .grade) (gradeIn G c (q .term))
-
-abbrev pub LinkMet : Grading → (ℕ → ℕ) → LinkClaim → Type 0
-LinkMet G s q = q .grade ≤ link G (q .role) (s (q .source)) (s (q .target))
 
 -- candidate c meets every claim that mentions individual j and no other
 pub record Alone (G : Grading) (ms ls : List ℕ) (j c : ℕ) : Type 0 where

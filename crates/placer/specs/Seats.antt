@@ -13,9 +13,9 @@ use Rattle.semantics.specs.Links.{link}
 use Rattle.sections.specs.Terms.{termCount, termsOf, TermsRight}
 use Rattle.sections.specs.Claims.{claimCount, linkAt, LinksRight}
 use Rattle.grades.specs.Rows.{rowAt, RowsAllow}
-use Rattle.placement.specs.Outcome.{seat}
+use Rattle.placement.specs.Outcome.{seat, LinkMet}
 use Rattle.placer.specs.Walk.{walk}
-use Rattle.placer.specs.Claims.{gradingOf, latest, LinkMet}
+use Rattle.placer.specs.Claims.{gradingOf, latest}
 use Rattle.placer.specs.Rows.{RowIn}
 use Rattle.placer.specs.Filter.{Allowed}
 use Rattle.placer.specs.Quantified.{NumbersCollected}
