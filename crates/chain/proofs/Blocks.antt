@@ -3,7 +3,7 @@
 use mathlib.Core.Path.{_≡_, sym, _∙_}
 use mathlib.Core.List.{List, flatMap}
 use Prim.Native.Nat.{ℕ, zero, suc, _+_, _*_, _/_, _≤_, _<_}
-use native.Mathlib.Nat.{mul-zero, mul-suc, mul-le-mul-left, div-eq-of-eq-mul-right}
+use native.Mathlib.Nat.{mul-zero, mul-suc, suc-mul, mul-le-mul-left, mul-le-mul-right, div-eq-of-eq-mul-right}
 use native.Mathlib.Omega.{arith}
 use lib.ListN.{length, getD, take, drop, length-take, length-drop}
 use lib.Seq.{take-all, take-add, drop-drop, getD-take, getD-drop, ext-getD}
@@ -40,3 +40,7 @@ module _ {A B : Type 0} (f : A → List B) where
             ∙ take-all (w * (length s / w)) s (omega arith),
         length-table r (length s / w) ∙ q,
       )
+
+-- block k of n, each of width w, ends within them
+pub block-fits : (w k n : ℕ) → k < n → k * w + w ≤ n * w
+block-fits w k n h = omega (arith, mul-le-mul-right w h, suc-mul k w)

@@ -4,10 +4,10 @@ use mathlib.Core.Path.{_≡_, refl, sym, _∙_}
 use mathlib.Core.Bool.{Bool, true, false}
 use mathlib.Core.Option.{Option, none, some}
 use mathlib.Core.List.{List, [], _∷_, _++_}
-use Prim.Native.Nat.{ℕ}
+use Prim.Native.Nat.{ℕ, _<_}
 use native.Mathlib.Omega.{arith}
 use Rattle.chain.specs.Decisions.{says}
-use Rattle.chain.specs.Questions.{Question, ask, firstNo}
+use Rattle.chain.specs.Questions.{Question, ask, firstNo, TellsFirstNo, orZero, Numbered, numbered?}
 use Rattle.chain.proofs.Decisions.{says-yes, says-no, says-true}
 
 pub first-empty : firstNo [] ≡ none
@@ -62,3 +62,27 @@ first-both qs rs e = go (firstNo qs) refl
     go : (o : Option ℕ) → firstNo qs ≡ o → (firstNo qs ≡ none) × (firstNo rs ≡ none)
     go none f = (f, sym (first-none-append qs rs f) ∙ e)
     go (some n) f = let z = sym (first-some-append qs rs n f) ∙ e in let y : _≡_ {A = ℕ} 0 1 = cc in absurd (omega arith)
+
+-- ---- as a number, 0 where there is none
+
+first-above : (qs : List Question) → Numbered qs → (n : ℕ) → firstNo qs ≡ some n → 0 < n
+unfolding firstNo
+first-above [] w n e = let z : _≡_ {A = ℕ} 0 1 = cc in absurd (omega arith)
+first-above (q ∷ qs) w n e = go (q .answer) (first-above qs (w .1) n) e
+  where
+    go : (b : Bool) → (firstNo qs ≡ some n → 0 < n)
+        → (let o : Option ℕ = elim b [ true ↦ firstNo qs | false ↦ some (q .number) ] in o ≡ some n) → 0 < n
+    go true ih h = ih h
+    go false ih h = let f : q .number ≡ n = cc in omega (arith, f, w .0)
+
+pub tells-first-no : (qs : List Question) (r : ℕ) → says (numbered? qs) ≡ true → r ≡ orZero (firstNo qs) → TellsFirstNo qs r
+tells-first-no qs r w = go (firstNo qs) refl
+  where
+    go : (o : Option ℕ) → firstNo qs ≡ o → r ≡ orZero o → TellsFirstNo qs r
+    go none e h = record { answered = (λ _. e, λ _. h); refused = λ n f. let z : _≡_ {A = ℕ} 0 1 = cc in absurd (omega arith) }
+    go (some m) e h =
+        let above = first-above qs (says-true (numbered? qs) w) m e in
+        record {
+          answered = (λ z. absurd (omega (arith, above, h, z)), λ f. let z : _≡_ {A = ℕ} 0 1 = cc in absurd (omega arith));
+          refused = λ n f. let g : m ≡ n = cc in h ∙ g;
+        }

@@ -1,4 +1,5 @@
-// The entry points. Each takes a book's bytes as they come, and refuses with the number of the first check that says no.
+// Grades, links and sheets: entry points, each of which takes a book's bytes as they come and refuses with the number of the first check that says
+// no; and beside each the same on the bytes and sections of a book that is opened.
 ghost use mathlib.Core.Path.{_≡_};
 ghost use mathlib.Core.List.{_++_};
 ghost use Prim.Native.Nat.{_<_, _≤_};

@@ -12,9 +12,6 @@ use lib.Seq.{length-take-le, getD-take, getD-drop}
 pub row-end : (m x y : ℕ) → x < y → m * x + m ≤ m * y
 row-end m x y h = omega (arith, mul-suc m x, mul-le-mul-left m h)
 
-pub row-below : (m x y : ℕ) → x < y → x * m + m ≤ y * m
-row-below m x y h = rw (mul-comm x m, mul-comm y m) (row-end m x y h)
-
 -- so does each of its entries
 pub entry-below : (m k x y : ℕ) → k < m → x < y → m * x + k < y * m
 entry-below m k x y h l = omega (arith, row-end m x y l, mul-comm m y)

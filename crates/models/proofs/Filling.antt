@@ -2,8 +2,8 @@
 -- Assumes nothing.
 use mathlib.Core.Path.{_≡_, refl, _∙_}
 use mathlib.Core.List.{List, [], _++_, flatMap, append-nil, append-assoc}
-use Prim.Native.Nat.{ℕ, _+_, _*_, _-_, _≤_, _<_}
-use native.Mathlib.Nat.{zero-add, zero-mul, suc-mul, mul-le-mul-right}
+use Prim.Native.Nat.{ℕ, _+_, _*_, _-_, _≤_}
+use native.Mathlib.Nat.{zero-add, zero-mul, suc-mul}
 use native.Mathlib.Numerals.{add-one}
 use native.Mathlib.Omega.{arith}
 use lib.ListN.{length, take, drop, length-append, length-drop, length-take}
@@ -51,10 +51,6 @@ module _ (f : ℕ → List ℕ) (w : ℕ) (wide : (x : ℕ) → length (f x) ≡
   blocks-next k l d part e h =
       paste-next (flatMap f (from 0 k)) d l part (k * w) (k * w + w) e (length-blocks f w wide 0 k) (omega arith)
       ∙ rw (h, add-one k, flatMap-more f 0 k, zero-add k, suc-mul k w)
-
--- the block of a turn is within the list
-pub block-fits : (w k n : ℕ) → k < n → k * w + w ≤ n * w
-block-fits w k n h = omega (arith, mul-le-mul-right w h, suc-mul k w)
 
 -- all of it filled
 pub whole : (b d l : List ℕ) (n : ℕ) → l ≡ b ++ drop n d → length d ≡ n → l ≡ b

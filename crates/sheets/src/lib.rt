@@ -1,4 +1,4 @@
-// Sheets: their layout and checks, the grid of grades, and the verdict on a book's rules and claims.
+// The checks of a sheet: its head, its layout and its entries; and the verdicts that there are on one.
 ghost use mathlib.Core.Path.{_≡_};
 ghost use Prim.Native.Nat.{ℕ, _≤_, _<_};
 ghost use lib.ListN.{length, getD};

@@ -6,7 +6,7 @@ use Prim.Native.Nat.{_≤_, _+_, _*_, _-_}
 use native.Mathlib.Omega.{arith}
 use lib.ListN.{drop, length-take, length}
 use Rattle.grids.specs.Columns.{rowsOf}
-use Rattle.grids.proofs.Bounds.{row-below}
+use Rattle.chain.proofs.Blocks.{block-fits}
 use Rattle.grids.proofs.Columns.{fill-none, fill-more}
 use Rattle.grids.proofs.write_grid.Statement.{statement}
 use Rattle.grids.proofs.write_grid.Tie as tie
@@ -22,7 +22,7 @@ row-fits : (c : tie.In-loop Inv-loop μ-loop)
     → c .before .loop .e * c .before .before .before .before .args .t + c .before .before .before .before .args .t ≤ length (c .before .loop .grid)
 row-fits c =
     let s = c .before .before .before .before in
-    omega (arith, row-below (s .args .t) (c .before .loop .e) (s .args .n) (c .loop-test .taken), c .before .loop .inv .1, s .pre .3)
+    omega (arith, block-fits (s .args .t) (c .before .loop .e) (s .args .n) (c .loop-test .taken), c .before .loop .inv .1, s .pre .3)
 
 loop-holds : tie.Need-loop-holds Inv-loop μ-loop
 loop-holds c = (omega arith, omega arith, fill-none _ _ _)

@@ -7,10 +7,11 @@ use native.Mathlib.Nat.{mul-le-mul}
 use native.Mathlib.Omega.{arith}
 use lib.ListN.{length, drop}
 use borrow.Author.Needs.{needs}
+use Rattle.chain.proofs.Blocks.{block-fits}
 use Rattle.chain.specs.Lists.{from}
 use Rattle.sections.specs.Terms.{termsOf}
 use Rattle.models.specs.Rows.{squareBy, linksBy}
-use Rattle.models.proofs.Filling.{length-part, blocks-none, blocks-next, block-fits, whole}
+use Rattle.models.proofs.Filling.{length-part, blocks-none, blocks-next, whole}
 use Rattle.models.proofs.Rows.{length-square}
 use Rattle.models.proofs.write_links.Statement.{statement}
 use Rattle.models.proofs.write_links.Tie as tie

@@ -6,10 +6,11 @@ use Prim.Native.Nat.{ℕ, _≤_, _<_, _+_, _*_, _-_}
 use native.Mathlib.Omega.{arith}
 use lib.ListN.{length, drop}
 use borrow.Author.Needs.{needs}
+use Rattle.chain.proofs.Blocks.{block-fits}
 use Rattle.chain.specs.Lists.{table, from}
 use Rattle.sections.specs.Terms.{termsOf}
 use Rattle.models.specs.Rows.{nameIn, namesBy}
-use Rattle.models.proofs.Filling.{length-part, blocks-none, blocks-next, block-fits, whole}
+use Rattle.models.proofs.Filling.{length-part, blocks-none, blocks-next, whole}
 use Rattle.grades.proofs.Rows.{length-rowAt}
 use Rattle.models.proofs.Rows.{nameRow, length-nameRow}
 use Rattle.models.proofs.write_names.Statement.{statement}
