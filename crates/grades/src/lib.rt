@@ -144,14 +144,14 @@ pub fn put_row(terms: &[u8], steps: u8, c: usize, rows: &mut [u8], k: usize)
 // ---- the link of two rows
 
 // Does a "some" term with these grades, its own and its child's, allow a link of grade `level`?
-fn some_allows(level: u8, own: u8, child: u8) -> bool
+pub fn some_allows(level: u8, own: u8, child: u8) -> bool
     ensures { λ r. ⌜ Tells r (min level child ≤ own) ⌝ }
 {
     lesser(level, child) <= own
 }
 
 // The same of an "all" term.
-fn all_allows(steps: u8, level: u8, own: u8, child: u8) -> bool
+pub fn all_allows(steps: u8, level: u8, own: u8, child: u8) -> bool
     requires { ⌜ level ≤ steps ⌝ }
     ensures { λ r. ⌜ Tells r (own ≤ max (steps - level) child) ⌝ }
 {

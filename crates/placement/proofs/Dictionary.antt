@@ -4,11 +4,11 @@ use mathlib.Core.Path.{_≡_, refl, sym, ap, ap₂, subst, _∙_}
 use mathlib.Core.Logic.{_⊎_, inl, inr, ⊎-elim}
 use mathlib.Core.Option.{Option, none, some}
 use mathlib.Core.List.{List, [], _∷_}
-use Prim.Native.Nat.{ℕ, zero, suc, _<_}
+use Prim.Native.Nat.{ℕ, zero, suc, _≤_, _<_}
 use native.Mathlib.Nat.{suc-inj, suc-ne-zero}
 use native.Mathlib.Decide.{decLt}
 use native.Mathlib.Omega.{arith}
-use lib.ListN.{length}
+use lib.ListN.{length, getD}
 use Rattle.chain.specs.Lists.{Mem, Ascending}
 use Rattle.chain.proofs.Lists.{ascending-mem}
 use Rattle.placement.specs.Dictionary.{NotAfter, Drawn, Foremost, Nowhere, Finds, tryEach, seek}
@@ -67,6 +67,43 @@ module _ (xs : List ℕ) (k : ℕ) (P : List ℕ → Type 0) where
           → Finds xs (suc k) P (elim o [ none ↦ tryEach rest ys | some p ↦ some (y ∷ p) ])
       go none f later = later f
       go (some p) w later = foremost-cons y p (into y (inl refl)) earlier w
+
+-- ---- dictionary order
+
+pub not-after-refl : (p : List ℕ) → NotAfter p p
+not-after-refl [] = tt
+not-after-refl (x ∷ p) = inr (refl, not-after-refl p)
+
+pub not-after-trans : (p q r : List ℕ) → NotAfter p q → NotAfter q r → NotAfter p r
+not-after-trans [] q r h g = tt
+not-after-trans (x ∷ p) [] r h g = absurd h
+not-after-trans (x ∷ p) (y ∷ q) [] h g = absurd g
+not-after-trans (x ∷ p) (y ∷ q) (z ∷ r) (inl h) (inl g) = inl (omega arith)
+not-after-trans (x ∷ p) (y ∷ q) (z ∷ r) (inl h) (inr g) = inl (omega (arith, g .0))
+not-after-trans (x ∷ p) (y ∷ q) (z ∷ r) (inr h) (inl g) = inl (omega (arith, h .0))
+not-after-trans (x ∷ p) (y ∷ q) (z ∷ r) (inr h) (inr g) = inr (h .0 ∙ g .0, not-after-trans p q r (h .1) (g .1))
+
+-- entries that are nowhere greater
+pub not-after-below : (p q : List ℕ) → length p ≡ length q → ((j : ℕ) → j < length p → getD p j 0 ≤ getD q j 0) → NotAfter p q
+not-after-below [] q l h = tt
+not-after-below (x ∷ p) [] l h = absurd (suc-ne-zero (length p) l)
+not-after-below (x ∷ p) (y ∷ q) l h = at (decLt x y) (not-after-below p q (suc-inj l) (λ j g. h (suc j) (omega arith)))
+  where
+    at : Dec (x < y) → NotAfter p q → NotAfter (x ∷ p) (y ∷ q)
+    at (yes g) rest = inl g
+    at (no n) rest = let z : x ≤ y = h zero (omega arith) in inr (omega arith, rest)
+
+-- ---- A search among fewer lists finds what is first among all, if they keep, for each that passes, one that passes and is not after it.
+
+pub finds-fewer : (xs ys : List ℕ) (k : ℕ) (P Q : List ℕ → Type 0) → ((p : List ℕ) → Drawn xs k p → P p → Drawn ys k p × Q p)
+    → ((p : List ℕ) → Drawn ys k p → Q p → (q : List ℕ) × Drawn xs k q × P q × NotAfter q p) → (o : Option (List ℕ)) → Finds xs k P o → Finds ys k Q o
+finds-fewer xs ys k P Q into kept none f = λ p d h. let u = kept p d h in f (u .0) (u .1) (u .2)
+finds-fewer xs ys k P Q into kept (some p) w =
+    let u = into p (w .drawn) (w .passes) in record {
+      drawn = u .0;
+      passes = u .1;
+      foremost = λ q d h. let v = kept q d h in not-after-trans p (v .0) q (w .foremost (v .0) (v .1) (v .2)) (v .3);
+    }
 
 -- ---- the search finds the first, or there is none
 
