@@ -100,6 +100,9 @@ module _ (N m n : ℕ) (slots own child : List ℕ) (e : m ≡ n) where
   pub state-sized : (marks memory : List ℕ) (left : ℕ) → State (tables N m slots own child) marks memory left → State (tables N n slots own child) marks memory left
   state-sized marks memory left = subst (λ (k : ℕ). State (tables N k slots own child) marks memory left) e
 
+  pub reduced-sized : (marks after : List ℕ) → Reduced (tables N m slots own child) marks after → Reduced (tables N n slots own child) marks after
+  reduced-sized marks after = subst (λ (k : ℕ). Reduced (tables N k slots own child) marks after) e
+
   pub visited-sized : (c : ℕ) (marks after : List ℕ) (left r : ℕ) → Visited (tables N m slots own child) c marks after left r
       → Visited (tables N n slots own child) c marks after left r
   visited-sized c marks after left r = subst (λ (k : ℕ). Visited (tables N k slots own child) c marks after left r) e
