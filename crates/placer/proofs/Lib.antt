@@ -1,5 +1,4 @@
 pub mod Walk
-pub mod Filter
-pub mod Quantified
 pub mod Seats
+pub mod Rows
 pub mod Placing

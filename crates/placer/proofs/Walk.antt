@@ -8,11 +8,12 @@ use mathlib.Core.List.{List, [], _∷_, _++_, append-assoc, append-nil}
 use Prim.Native.Nat.{ℕ, zero, suc, _+_, _-_, _≤_, _<_}
 use native.Mathlib.Nat.{sub-zero, not-suc-le-zero}
 use native.Mathlib.Numerals.{add-one}
+use native.Mathlib.Decide.{decLt}
 use native.Mathlib.Omega.{arith}
 use lib.ListN.{length, getD, take}
 use Rattle.chain.specs.Decisions.{dec-and}
 use Rattle.chain.specs.Lists.{from, Ascending}
-use Rattle.placement.specs.Dictionary.{Drawn, Finds, tryEach, seek}
+use Rattle.placement.specs.Dictionary.{Finds, tryEach, seek}
 use Rattle.placement.proofs.Dictionary.{seek-finds}
 use Rattle.placer.specs.Walk.{through, walk, placed}
 
@@ -71,15 +72,6 @@ seek-none {P} p n xs zero = go (p [])
     go (no a) = refl
 seek-none p n xs (suc k) = try-none _ (λ y. seek-none (λ l. p (y ∷ l)) (λ l. n (y ∷ l)) xs k) xs
 
--- ---- what is found among other lists, where the same ones are drawn and pass
-
-pub finds-map : (xs ys : List ℕ) (k : ℕ) (P Q : List ℕ → Type 0) → ((p : List ℕ) → Drawn xs k p × P p ↔ Drawn ys k p × Q p) → (o : Option (List ℕ))
-    → Finds xs k P o → Finds ys k Q o
-finds-map xs ys k P Q h none f = λ p d q. let u = h p .1 (d, q) in f p (u .0) (u .1)
-finds-map xs ys k P Q h (some p) w =
-    let u = h p .0 (w .drawn, w .passes) in
-    record { drawn = u .0; passes = u .1; foremost = λ q d z. let v = h q .1 (d, z) in w .foremost q (v .0) (v .1) }
-
 module _ (May : List ℕ → ℕ → Type 0) (may? : (q : List ℕ) (c : ℕ) → Dec (May q c)) where
   -- ---- one turn, over the candidates below count
 
@@ -129,6 +121,15 @@ module _ (May : List ℕ → ℕ → Type 0) (may? : (q : List ℕ) (c : ℕ) �
 
     pub rest-not : (c : ℕ) → c < count → ¬ May q c → rest c ≡ rest (c + 1)
     rest-not c h n = rest-past c h (through-not (walk May may? (from 0 count) k) q c n)
+
+    -- over candidates none of which may follow
+    pub rest-skip : (c g : ℕ) → ((e : ℕ) → c ≤ e → e < c + g → ¬ May q e) → rest c ≡ rest (c + g)
+    rest-skip c zero n = let e : c ≡ c + zero = omega arith in ap rest e
+    rest-skip c (suc g) n = rest-skip c g (λ e l h. n e l (omega arith)) ∙ step-on (decLt (c + g) count)
+      where
+        step-on : Dec (c + g < count) → rest (c + g) ≡ rest (c + suc g)
+        step-on (yes h) = rest-not (c + g) h (n (c + g) (omega arith) (omega arith)) ∙ (let e : c + g + 1 ≡ c + suc g = omega arith in ap rest e)
+        step-on (no h) = rest-end (c + g) (omega arith) ∙ sym (rest-end (c + suc g) (omega arith))
 
     module _ (c : ℕ) (h : c < count) (m : May q c) where
       pub rest-back : walk May may? (from 0 count) k (q ++ c ∷ []) ≡ none → rest c ≡ rest (c + 1)

@@ -2,23 +2,16 @@
 -- Assumes nothing.
 use mathlib.Core.Path.{_≡_}
 use mathlib.Core.List.{List}
-use Prim.Native.Nat.{ℕ, _≤_, _<_, max}
-use lib.ListN.{length}
+use Prim.Native.Nat.{ℕ, _<_, max}
 use Rattle.placement.specs.Outcome.{MembershipMet, LinkMet}
 use Rattle.semantics.specs.Interpretations.{Grading, graded}
 use Rattle.semantics.specs.Books.{LinkClaim}
-use Rattle.sections.specs.Terms.{termCount, termsOf}
+use Rattle.sections.specs.Terms.{termsOf}
 use Rattle.sections.specs.Claims.{claimCount, membershipAt, linkAt}
-use Rattle.grades.specs.Rows.{HasGrades}
 
 -- the grading of a section of terms on N steps
 abbrev pub gradingOf : (N : ℕ) (terms : List ℕ) → Grading
 gradingOf N ts = graded N (termsOf ts)
-
--- the row has all grades of candidate c
-pub record RowFor (N : ℕ) (ts : List ℕ) (c : ℕ) (row : List ℕ) : Type 0 where
-  pub long : termCount ts ≤ length row
-  pub grades : HasGrades (gradingOf N ts) c row
 
 -- the last of the two individuals that a link claim mentions
 abbrev pub latest : LinkClaim → ℕ

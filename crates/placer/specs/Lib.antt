@@ -1,6 +1,5 @@
 pub mod Walk
 pub mod Claims
 pub mod Rows
-pub mod Filter
-pub mod Quantified
+pub mod Serving
 pub mod Seats

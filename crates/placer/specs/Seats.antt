@@ -1,42 +1,48 @@
--- Placing the next individual: at a candidate that the table allows, if the link claims that it completes are met.
+-- Placing the next individual: at a candidate that the table allows and that is compatible with those of the individuals before it.
 -- Assumes nothing.
-use mathlib.Core.Path.{_≡_}
 use mathlib.Core.Option.{Option}
-use mathlib.Core.List.{List, [], _∷_, _++_}
-use Prim.Native.Nat.{ℕ, _+_, _*_, _≤_, _<_}
+use mathlib.Core.List.{List}
+use Prim.Native.Nat.{ℕ, _+_, _-_, _*_, _≤_, _<_, min, max}
 use native.Mathlib.Decide.{ℕ-discrete, decLe}
 use lib.ListN.{length, getD}
-use Rattle.chain.specs.Decisions.{dec-imp}
+use Rattle.chain.specs.Decisions.{dec-and, dec-imp}
 use Rattle.chain.specs.Search.{all?}
 use Rattle.chain.specs.Lists.{from}
-use Rattle.semantics.specs.Links.{link}
-use Rattle.sections.specs.Terms.{termCount, termsOf, TermsRight}
-use Rattle.sections.specs.Claims.{claimCount, linkAt, LinksRight}
-use Rattle.grades.specs.Rows.{rowAt, RowsAllow}
-use Rattle.placement.specs.Outcome.{seat, LinkMet}
+use Rattle.grades.specs.Rows.{rowAt}
+use Rattle.placement.specs.Outcome.{seat}
+use Rattle.network.specs.Constraints.{constraintCount, constraintAt, AllMet}
+use Rattle.network.specs.Network.{between}
+use Rattle.domains.specs.Tables.{Allowed}
+use Rattle.domains.specs.Gaps.{Gaps}
+use Rattle.domains.specs.Consistent.{Fits, Problem}
 use Rattle.placer.specs.Walk.{walk}
-use Rattle.placer.specs.Claims.{gradingOf, latest}
-use Rattle.placer.specs.Rows.{RowIn}
-use Rattle.placer.specs.Filter.{Allowed}
-use Rattle.placer.specs.Quantified.{NumbersCollected}
 
-module _ (N : ℕ) (ts ls table : List ℕ) where
-  -- the individual after those seated by q may have candidate c, and every link claim whose last individual it is is met
+-- whether all constraints of a list are met, and whether two rows are compatible
+unfoldable pub allMet? : (N : ℕ) (s a b : List ℕ) → Dec (AllMet N s a b)
+unfolding all? dec-and dec-imp ℕ-discrete decLe
+allMet? N s a b =
+    all? (λ y. let k = constraintAt s y in
+    dec-and (dec-imp (ℕ-discrete (k .kind) 4) (decLe (min (k .level) (getD b (k .child) 0)) (getD a (k .own) 0)))
+    (dec-imp (ℕ-discrete (k .kind) 5) (decLe (getD a (k .own) 0) (max (N - k .level) (getD b (k .child) 0))))) (constraintCount s)
+
+module _ (N : ℕ) (net ends rows table : List ℕ) where
+  -- the individual after those seated by q may have candidate c, which is compatible with theirs
   pub record May (q : List ℕ) (c : ℕ) : Type 0 where
     pub allowed : Allowed table (length q) c
-    pub linked : (i : ℕ) → i < claimCount ls → latest (linkAt ls i) ≡ length q → LinkMet (gradingOf N ts) (seat (q ++ c ∷ [])) (linkAt ls i)
+    pub fits : (i : ℕ) → i < length q → Fits N net ends i (length q) (rowAt rows (seat q i)) (rowAt rows c)
 
   -- whether it is so
   unfoldable pub may? : (q : List ℕ) (c : ℕ) → Dec (May q c)
-  unfolding ℕ-discrete decLe dec-imp all?
+  unfolding ℕ-discrete all? dec-and allMet?
   may? q c =
       go (ℕ-discrete (getD table (16384 * length q + c) 0) 1)
-      (all? (λ i. dec-imp (ℕ-discrete (latest (linkAt ls i)) (length q)) (decLe (linkAt ls i .grade) (link (gradingOf N ts) (linkAt ls i .role) (seat (q ++ c ∷ []) (linkAt ls i .source)) (seat (q ++ c ∷ []) (linkAt ls i .target))))) (claimCount ls))
+      (all? (λ i. dec-and (allMet? N (between net ends i (length q)) (rowAt rows (seat q i)) (rowAt rows c))
+      (allMet? N (between net ends (length q) i) (rowAt rows c) (rowAt rows (seat q i)))) (length q))
     where
       go : Dec (Allowed table (length q) c)
-          → Dec ((i : ℕ) → i < claimCount ls → latest (linkAt ls i) ≡ length q → LinkMet (gradingOf N ts) (seat (q ++ c ∷ [])) (linkAt ls i)) → Dec (May q c)
-      go (yes a) (yes b) = yes (record { allowed = a; linked = b })
-      go (yes a) (no b) = no (λ m. b (m .linked))
+          → Dec ((i : ℕ) → i < length q → Fits N net ends i (length q) (rowAt rows (seat q i)) (rowAt rows c)) → Dec (May q c)
+      go (yes a) (yes b) = yes (record { allowed = a; fits = b })
+      go (yes a) (no b) = no (λ m. b (m .fits))
       go (no a) d = no (λ m. a (m .allowed))
 
   -- the search for the seats of k individuals more, after those of q, at candidates below count
@@ -44,27 +50,13 @@ module _ (N : ℕ) (ts ls table : List ℕ) where
   unfolding walk may? from
   walkOf count k q = walk May may? (from 0 count) k q
 
--- ---- the rows of those seated
+-- ---- what stays as it is throughout
 
--- link claim i is met by the rows of the candidates at which those seated sit, if individual k is the last that it mentions
-abbrev pub LinkBy : (N : ℕ) (ts ls rows seats : List ℕ) (k i : ℕ) → Type 0
-LinkBy N ts ls rows seats k i =
-    latest (linkAt ls i) ≡ k
-    → RowsAllow N (termsOf ts) (linkAt ls i .role) (rowAt rows (seat seats (linkAt ls i .source))) (rowAt rows (seat seats (linkAt ls i .target))) (linkAt ls i .grade)
-
--- the first k individuals sit at candidates whose rows are in the table
-abbrev pub SeatedRows : (N : ℕ) (ts rows seats : List ℕ) (k : ℕ) → Type 0
-SeatedRows N ts rows seats k = (j : ℕ) → j < k → (seat seats j < 16384) × RowIn N ts rows (seat seats j)
-
--- ---- what stays as it is throughout: n individuals are placed at candidates below count
-
-pub record Setting (N : ℕ) (ts quantified ls : List ℕ) (count n : ℕ) (table rows : List ℕ) : Type 0 where
-  pub terms-right : TermsRight ts
-  pub collected : NumbersCollected ts quantified (termCount ts) (length quantified)
-  pub links-right : LinksRight ls N
-  pub terms-few : termCount ts ≤ 64
-  pub candidates-few : count ≤ 16384
-  pub individuals-few : n ≤ 8
+pub record Setting (N m : ℕ) (net ends : List ℕ) (count n : ℕ) (table rows : List ℕ) : Type 0 where
+  pub problem : Problem N m net ends count n rows
   pub table-long : 131072 ≤ length table
-  pub rows-long : 1048576 ≤ length rows
-  pub allowed-rows : (j c : ℕ) → j < n → c < count → Allowed table j c → RowIn N ts rows c
+  pub gaps : Gaps table n count
+
+-- the first k individuals sit at candidates
+abbrev pub SeatedBelow : (seats : List ℕ) (k : ℕ) → Type 0
+SeatedBelow seats k = (i : ℕ) → i < k → seat seats i < 16384

@@ -1,30 +1,30 @@
--- `placer::allow_row` meets its contract. The individuals below `j` have their byte for the candidate.
+-- `filter::allow_row` meets its contract. The individuals below `j` have their byte for the candidate.
 -- Assumes nothing.
 use mathlib.Core.Path.{_≡_, refl, subst, _∙_}
 use Prim.Native.Nat.{ℕ, _+_, _*_, _≤_, _-_}
 use native.Mathlib.Omega.{arith}
 use lib.ListN.{length, length-set}
 use borrow.Author.Needs.{needs}
-use Rattle.placer.specs.Filter.{Column}
-use Rattle.placer.proofs.Filter.{column-start, column-turn}
-use Rattle.placer.proofs.allow_row.Statement.{statement}
-use Rattle.placer.proofs.allow_row.Tie as tie
+use Rattle.filter.specs.Filter.{Column}
+use Rattle.filter.proofs.Filter.{column-start, column-turn}
+use Rattle.filter.proofs.allow_row.Statement.{statement}
+use Rattle.filter.proofs.allow_row.Tie as tie
 
 abbrev Inv-loop : tie.InvT-loop
-Inv-loop terms steps memberships links individuals c row table₀ j₀ table j =
-    (j ≤ individuals) × (length table ≡ length table₀) × Column steps terms memberships links j c table₀ table
+Inv-loop steps memberships net ends terms individuals c row table₀ j₀ table j =
+    (j ≤ individuals) × (length table ≡ length table₀) × Column steps memberships net ends row j c table₀ table
 
 abbrev μ-loop : tie.MeasureT-loop
-μ-loop terms steps memberships links individuals c row table₀ j₀ table j = individuals - j
+μ-loop steps memberships net ends terms individuals c row table₀ j₀ table j = individuals - j
 
 loop-holds : tie.Need-loop-holds Inv-loop μ-loop
 loop-holds c =
     let s = c .before .before .before .before .before in
     let a = s .args in
-    (omega arith, refl, column-start (a .steps) (a .terms .now) (a .memberships .now) (a .links .now) (a .c) (s .pre .1 .1 .1 .1 .1) (a .table .now))
+    (omega arith, refl, column-start (a .steps) (a .memberships .now) (a .net .now) (a .ends .now) (a .row .now) (a .c) (s .pre .1 .1 .4) (a .table .now))
 
 admitted-requires : tie.Need-admitted-requires Inv-loop μ-loop
-admitted-requires c κs = let s = c .before .before .before .before .before .before .before in (s .pre .0, (s .pre .1 .0, (s .pre .1 .1 .0, s .pre .1 .1 .1 .0)))
+admitted-requires c κs = let s = c .before .before .before .before .before .before .before in (s .pre .0, (s .pre .1 .0, (omega (arith, c .loop-test .taken, s .pre .1 .1 .0), s .pre .1 .1 .1, s .pre .1 .1 .2, s .pre .1 .1 .3)))
 
 mul-table : tie.Need-mul-table Inv-loop μ-loop
 mul-table c = search needs
@@ -33,7 +33,7 @@ add-table : tie.Need-add-table Inv-loop μ-loop
 add-table c = search needs
 
 slice-write-table : tie.Need-slice-write-table Inv-loop μ-loop
-slice-write-table c = omega (arith, c .before .before .loop .inv .1, c .before .before .before .before .before .before .before .before .pre .1 .1 .1 .1)
+slice-write-table c = omega (arith, c .before .before .loop .inv .1, c .before .before .before .before .before .before .before .before .pre .1 .1)
 
 add-j : tie.Need-add-j Inv-loop μ-loop
 add-j c = search needs
@@ -45,7 +45,7 @@ loop-again : tie.Need-loop-again Inv-loop μ-loop
 loop-again c =
     let s = c .before .before .before .before .before .before .before .before in
     let a = s .args in
-    (omega arith, length-set (c .before .before .loop .table) (16384 * c .before .before .loop .j + a .c) (c .admitted .result) ∙ c .before .before .loop .inv .1, column-turn (a .steps) (a .terms .now) (a .memberships .now) (a .links .now) (a .c) (s .pre .1 .1 .1 .1 .1) (a .table .now) (c .before .before .loop .j) (c .before .before .loop .table) (c .admitted .result) (omega (arith, c .before .before .loop .inv .1, s .pre .1 .1 .1 .1)) (c .admitted .ensures) (c .before .before .loop .inv .2))
+    (omega arith, length-set (c .before .before .loop .table) (16384 * c .before .before .loop .j + a .c) (c .admitted .result) ∙ c .before .before .loop .inv .1, column-turn (a .steps) (a .memberships .now) (a .net .now) (a .ends .now) (a .row .now) (a .c) (s .pre .1 .1 .4) (a .table .now) (c .before .before .loop .j) (c .before .before .loop .table) (c .admitted .result) (omega (arith, c .before .before .loop .inv .1, s .pre .1 .1)) (c .admitted .ensures) (c .before .before .loop .inv .2))
 
 same-length : tie.Need-same-length Inv-loop μ-loop
 same-length c = c .before .loop .inv .1
@@ -53,7 +53,7 @@ same-length c = c .before .loop .inv .1
 returns : tie.Need-returns Inv-loop μ-loop
 returns c =
     let a = c .before .before .before .before .before .before .before .args in
-    subst (λ (k : ℕ). Column (a .steps) (a .terms .now) (a .memberships .now) (a .links .now) k (a .c) (a .table .now) (c .before .loop .table)) (omega arith) (c .before .loop .inv .2)
+    subst (λ (k : ℕ). Column (a .steps) (a .memberships .now) (a .net .now) (a .ends .now) (a .row .now) k (a .c) (a .table .now) (c .before .loop .table)) (omega arith) (c .before .loop .inv .2)
 
 pub allow-row-spec : {M : Type 1} → statement M
 allow-row-spec =

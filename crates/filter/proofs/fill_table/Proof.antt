@@ -1,29 +1,28 @@
--- `placer::fill_table` meets its contract. The candidates below `entered` are entered.
+-- `filter::fill_table` meets its contract. The candidates below `entered` are entered.
 -- Assumes nothing.
-use mathlib.Core.Path.{_≡_, refl, sym, subst, _∙_}
-use mathlib.Core.List.{List}
+use mathlib.Core.Path.{_≡_, refl, subst, _∙_}
 use Prim.Native.Nat.{ℕ, _≤_, _-_}
 use native.Mathlib.Omega.{arith}
 use lib.ListN.{length}
 use borrow.Author.Needs.{needs}
-use Rattle.placer.specs.Claims.{RowFor}
-use Rattle.placer.specs.Filter.{Filtered}
-use Rattle.placer.proofs.Filter.{row-for, filtered-start, filtered-off, filtered-on}
-use Rattle.placer.proofs.fill_table.Statement.{statement}
-use Rattle.placer.proofs.fill_table.Tie as tie
+use Rattle.grades.proofs.Rows.{length-rowAt}
+use Rattle.filter.specs.Filter.{Filtered}
+use Rattle.filter.proofs.Filter.{filtered-start, filtered-off, filtered-on}
+use Rattle.filter.proofs.fill_table.Statement.{statement}
+use Rattle.filter.proofs.fill_table.Tie as tie
 
 abbrev Inv-loop : tie.InvT-loop
-Inv-loop terms steps memberships links marks count individuals rows table₀ entered₀ table entered =
-    (entered ≤ count) × (length table ≡ length table₀) × Filtered steps terms memberships links marks individuals entered table
+Inv-loop steps memberships net ends terms marks count individuals rows table₀ entered₀ table entered =
+    (entered ≤ count) × (length table ≡ length table₀) × Filtered steps memberships net ends marks rows individuals entered table
 
 abbrev μ-loop : tie.MeasureT-loop
-μ-loop terms steps memberships links marks count individuals rows table₀ entered₀ table entered = count - entered
+μ-loop steps memberships net ends terms marks count individuals rows table₀ entered₀ table entered = count - entered
 
 loop-holds : tie.Need-loop-holds Inv-loop μ-loop
 loop-holds c =
     let s = c .before .before .before .before .before .before in
     let a = s .args in
-    (omega arith, refl, filtered-start (a .steps) (a .terms .now) (a .memberships .now) (a .links .now) (a .marks .now) (a .individuals) (a .table .now) (s .pre .1 .1 .1 .1 .1 .2))
+    (omega arith, refl, filtered-start (a .steps) (a .memberships .now) (a .net .now) (a .ends .now) (a .marks .now) (a .rows .now) (a .individuals) (a .table .now) (s .pre .1 .1 .2))
 
 add-entered : tie.Need-add-entered Inv-loop μ-loop
 add-entered c = search needs
@@ -39,33 +38,32 @@ loop-again c =
     let s = c .before .before .before .before .before .before .before .before .before .before in
     let a = s .args in
     let l = c .before .before .before .loop in
-    (omega arith, l .inv .1, filtered-off (a .steps) (a .terms .now) (a .memberships .now) (a .links .now) (a .marks .now) (a .individuals) (l .entered) (omega (arith, c .before .before .loop-test .taken, s .pre .1 .1 .1 .0)) (l .table) (c .if1 .taken) (l .inv .2))
+    (omega arith, l .inv .1, filtered-off (a .steps) (a .memberships .now) (a .net .now) (a .ends .now) (a .marks .now) (a .rows .now) (a .individuals) (l .entered) (omega (arith, c .before .before .loop-test .taken, s .pre .1 .0 .candidates-few)) (l .table) (c .if1 .taken) (l .inv .2))
 
 row-at-requires : tie.Need-row-at-requires Inv-loop μ-loop
 row-at-requires c κs =
     let s = c .before .before .before .before .before .before .before .before .before .before in
-    omega (arith, c .before .before .loop-test .taken, s .pre .1 .1 .1 .0, s .pre .1 .1 .1 .1 .1)
+    omega (arith, c .before .before .loop-test .taken, s .pre .1 .0 .candidates-few, s .pre .1 .0 .rows-long)
 
 allow-row-requires : tie.Need-allow-row-requires Inv-loop μ-loop
 allow-row-requires c κs =
     let s = c .before .before .before .before .before .before .before .before .before .before .before .before in
     let a = s .args in
-    let p = s .pre .1 .1 .1 .0 in
+    let p = s .pre .1 .0 in
     let l = c .before .before .before .before .before .loop in
     let below = c .before .before .before .before .loop-test .taken in
-    let row = row-for (a .steps) (a .terms .now) (a .rows .now) (l .entered) (p .0) (omega (arith, below, p, s .pre .1 .1 .1 .1 .1)) (s .pre .1 .1 .1 .1 .0 (l .entered) below (c .before .before .if1 .left)) in
-    (s .pre .0, (s .pre .1 .0, (s .pre .1 .1 .0, (subst (λ (w : List ℕ). RowFor (a .steps) (a .terms .now) (l .entered) w) (sym (c .before .row-at .ensures)) row, (p .3, omega (arith, below, p), omega (arith, l .inv .1, s .pre .1 .1 .1 .1 .1 .1))))))
+    let long = length-rowAt (a .rows .now) (l .entered) (omega (arith, below, p .candidates-few, p .rows-long)) in
+    (s .pre .0, (p .right, (p .individuals-few, p .ends-long, p .laid, rw (c .before .row-at .ensures) (omega (arith, long, p .terms-few)), omega (arith, below, p .candidates-few), omega (arith, l .inv .1, s .pre .1 .1 .1))))
 
 loop-less-2 : tie.Need-loop-less-2 Inv-loop μ-loop
 loop-less-2 c = search needs
 
 loop-again-2 : tie.Need-loop-again-2 Inv-loop μ-loop
-loop-again-2 c =
-    let s = c .before .before .before .before .before .before .before .before .before .before .before .before .before .before .before in
+loop-again-2 c = let s = c .before .before .before .before .before .before .before .before .before .before .before .before .before .before .before in
     let a = s .args in
     let l = c .before .before .before .before .before .before .before .before .loop in
     let f = c .before .before .allow-row in
-    (omega arith, f .kept .1 .1 .1 .1 .1 .1 .1 .0 ∙ l .inv .1, filtered-on (a .steps) (a .terms .now) (a .memberships .now) (a .links .now) (a .marks .now) (a .individuals) (l .entered) (omega (arith, c .before .before .before .before .before .before .before .loop-test .taken, s .pre .1 .1 .1 .0)) (l .table) (f .last .1 .1 .1 .1 .1 .1 .1 .0) (c .before .before .before .before .before .if1 .left) (f .ensures) (l .inv .2))
+    (omega arith, f .kept .1 .1 .1 .1 .1 .1 .1 .1 .0 ∙ l .inv .1, filtered-on (a .steps) (a .memberships .now) (a .net .now) (a .ends .now) (a .marks .now) (a .rows .now) (a .individuals) (l .entered) (omega (arith, c .before .before .before .before .before .before .before .loop-test .taken, s .pre .1 .0 .candidates-few)) (l .table) (f .last .1 .1 .1 .1 .1 .1 .1 .1 .0) _ (c .before .before .before .before .row-at .ensures) (c .before .before .before .before .before .if1 .left) (f .ensures) (l .inv .2))
 
 same-length : tie.Need-same-length Inv-loop μ-loop
 same-length c = c .before .loop .inv .1
@@ -73,7 +71,7 @@ same-length c = c .before .loop .inv .1
 returns : tie.Need-returns Inv-loop μ-loop
 returns c =
     let a = c .before .before .before .before .before .before .before .before .args in
-    subst (λ (k : ℕ). Filtered (a .steps) (a .terms .now) (a .memberships .now) (a .links .now) (a .marks .now) (a .individuals) k (c .before .loop .table)) (omega arith) (c .before .loop .inv .2)
+    subst (λ (k : ℕ). Filtered (a .steps) (a .memberships .now) (a .net .now) (a .ends .now) (a .marks .now) (a .rows .now) (a .individuals) k (c .before .loop .table)) (omega arith) (c .before .loop .inv .2)
 
 pub fill-table-spec : {M : Type 1} → statement M
 fill-table-spec =

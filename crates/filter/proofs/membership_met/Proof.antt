@@ -1,11 +1,11 @@
--- `placer::membership_met` meets its contract.
+-- `filter::membership_met` meets its contract.
 -- Assumes nothing.
 use mathlib.Core.Path.{_∙_}
 use borrow.Author.Needs.{needs}
 use Rattle.chain.proofs.Decisions.{tells-yes}
-use Rattle.placer.proofs.Filter.{membership-told}
-use Rattle.placer.proofs.membership_met.Statement.{statement}
-use Rattle.placer.proofs.membership_met.Tie as tie
+use Rattle.filter.proofs.Filter.{membership-told}
+use Rattle.filter.proofs.membership_met.Statement.{statement}
+use Rattle.filter.proofs.membership_met.Tie as tie
 
 mul-wide : tie.Need-mul-wide
 mul-wide c = search needs

@@ -1,4 +1,4 @@
--- `placer::memberships_met` meets its contract. The claims below `i` are met; each call tells of one more.
+-- `filter::memberships_met` meets its contract. The claims below `i` are met; each call tells of one more.
 -- Assumes nothing.
 use Prim.Native.Nat.{ℕ, _≤_, _<_, _-_}
 use native.Mathlib.Omega.{arith}
@@ -6,9 +6,9 @@ use borrow.Author.Count.{below-none, below-more}
 use borrow.Author.Needs.{needs}
 use Rattle.chain.proofs.Decisions.{tells-yes, tells-no, told-yes, told-no}
 use Rattle.sections.specs.Claims.{claimCount}
-use Rattle.placer.specs.Filter.{MembershipBy}
-use Rattle.placer.proofs.memberships_met.Statement.{statement}
-use Rattle.placer.proofs.memberships_met.Tie as tie
+use Rattle.filter.specs.Filter.{MembershipBy}
+use Rattle.filter.proofs.memberships_met.Statement.{statement}
+use Rattle.filter.proofs.memberships_met.Tie as tie
 
 abbrev Inv-loop : tie.InvT-loop
 Inv-loop memberships j row count i₀ i = (i ≤ claimCount memberships) × ((x : ℕ) → x < i → MembershipBy memberships j row x)

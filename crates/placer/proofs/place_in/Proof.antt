@@ -1,30 +1,50 @@
 -- `placer::place_in` meets its contract.
 -- Assumes nothing.
-use mathlib.Core.Path.{sym}
 use native.Mathlib.Omega.{arith}
-use lib.Seq.{length-take-le}
 use borrow.Author.Needs.{needs}
-use Rattle.placer.proofs.Quantified.{numbers-part}
+use Rattle.sections.specs.Terms.{termCount}
+use Rattle.placer.proofs.Placing.{individuals-at-most, reduced-serves, found-placement, vain-placed}
+use Rattle.placer.proofs.Rows.{row-on-chain}
+use Rattle.placer.specs.Serving.{Prepared, Serves}
+use Rattle.domains.specs.Consistent.{Problem}
 use Rattle.placer.proofs.place_in.Statement.{statement}
 use Rattle.placer.proofs.place_in.Tie as tie
 
-slice-aggregate-collect : tie.Need-slice-aggregate-collect
-slice-aggregate-collect c = search needs
+connect-requires : tie.Need-connect-requires
+connect-requires c κs = search needs
 
-collect-requires : tie.Need-collect-requires
-collect-requires c κs = (c .before .before .before .before .before .before .before .before .pre .1 .1 .1 .0, omega arith)
+fill-rows-requires : tie.Need-fill-rows-requires
+fill-rows-requires c κs = search needs
 
-array-share-prefix-quantified : tie.Need-array-share-prefix-quantified
-array-share-prefix-quantified c = let v = c .before .collect in omega (arith, v .kept, v .ensures .fits, c .before .before .before .before .before .before .before .before .before .before .pre .1 .1 .1 .0)
+fill-domains-requires : tie.Need-fill-domains-requires
+fill-domains-requires c κs =
+    let s = c .before .before .before .before .before .before .before .before .before .before .before .before .before .before .before .before .before .before .before .before .before .before .before .before in
+    let a = s .args in
+    let z = s .pre .1 .1 .1 .1 .0 in
+    let y = s .pre .1 .1 .1 .1 .1 in
+    let k = c .before .before .before .before .before .before .before .before .before .before .before .before .connect in
+    let r = c .before .before .before .before .before .before .fill-rows in
+    let net = k .last .1 .1 .1 .0 in
+    let ends = k .last .1 .1 .1 .1 .0 in
+    let rows = r .last .1 .1 .1 .1 .0 in
+    let problem : Problem (a .steps) (termCount (a .terms .now)) net ends (a .count) (a .individuals) rows = record {
+      laid = k .ensures .laid;
+      ends-long = omega (arith, k .kept .1 .1 .1 .1 .0, y .1);
+      right = k .ensures .right;
+      terms-few = s .pre .1 .1 .1 .0;
+      candidates-few = z .0;
+      individuals-few = omega (arith, z .2, individuals-at-most (a .steps) (a .terms .now) (a .memberships .now) (a .links .now) (s .pre .1 .0) (s .pre .1 .1 .0));
+      rows-long = omega (arith, r .kept .1 .1 .1 .1 .0, y .3);
+    } in
+    (s .pre .1 .0, (problem, (λ c l m. row-on-chain (a .steps) (a .terms .now) rows (s .pre .0) c (r .ensures c l m), (z .1, y .4, y .5))))
 
-slice-aggregate-place-by : tie.Need-slice-aggregate-place-by
-slice-aggregate-place-by c = let v = c .before .before .collect in sym (length-take-le (v .result) _ (omega (arith, v .kept, v .ensures .fits, c .before .before .before .before .before .before .before .before .before .before .before .pre .1 .1 .1 .0)))
-
-place-by-requires : tie.Need-place-by-requires
-place-by-requires c κs =
-    let s = c .before .before .before .before .before .before .before .before .before .before .before .before .before .before in
-    let v = c .before .before .before .before .before .collect in
-    (s .pre .0, (numbers-part (s .args .terms .now) _ _ (v .result) (v .ensures) (omega (arith, v .kept, v .ensures .fits, s .pre .1 .1 .1 .0)), s .pre .1))
+in-vain-requires : tie.Need-in-vain-requires
+in-vain-requires c κs =
+    let s = c .before .before .before .before .before .before .before .before .before .before .before .before .before .before .before .before .before .before .before .before .before .before .before .before .before .before .before .before in
+    let a = s .args in
+    let z = s .pre .1 .1 .1 .1 .0 in
+    let y = s .pre .1 .1 .1 .1 .1 in
+    (z .0, omega (arith, z .2, individuals-at-most (a .steps) (a .terms .now) (a .memberships .now) (a .links .now) (s .pre .1 .0) (s .pre .1 .1 .0)), omega (arith, c .before .before .before .fill-domains .kept .1 .1 .1 .1 .1 .1 .1 .1 .1 .0, y .4))
 
 same-length : tie.Need-same-length
 same-length c = search needs
@@ -35,19 +55,115 @@ same-length-2 c = search needs
 same-length-3 : tie.Need-same-length-3
 same-length-3 c = search needs
 
+same-length-4 : tie.Need-same-length-4
+same-length-4 c = search needs
+
 returns : tie.Need-returns
-returns c = c .before .before .before .before .before .before .place-by .ensures
+returns c =
+    let s = c .before .before .before .before .before .before .before .before .before .before .before .before .before .before .before .before .before .before .before .before .before .before .before .before .before .before .before .before .before .before in
+    let a = s .args in
+    let z = s .pre .1 .1 .1 .1 .0 in
+    let y = s .pre .1 .1 .1 .1 .1 in
+    let k = c .before .before .before .before .before .before .before .before .before .before .before .before .before .before .before .before .before .before .connect in
+    let r = c .before .before .before .before .before .before .before .before .before .before .before .before .fill-rows in
+    let net = k .last .1 .1 .1 .0 in
+    let ends = k .last .1 .1 .1 .1 .0 in
+    let rows = r .last .1 .1 .1 .1 .0 in
+    let prepared : Prepared (a .steps) (a .terms .now) (a .memberships .now) (a .links .now) (a .marks .now) (a .individuals) (a .count) net ends rows = record {
+      terms-right = s .pre .0;
+      memberships-right = s .pre .1 .0;
+      links-right = s .pre .1 .1 .0;
+      candidates-few = z .0;
+      individuals-are = z .2;
+      network = k .ensures;
+      rowed = r .ensures;
+    } in
+    let f = c .before .before .before .before .before .fill-domains in
+    let table = f .last .1 .1 .1 .1 .1 .1 .1 .1 .1 .0 in
+    let serves : Serves (a .steps) (a .terms .now) (a .memberships .now) (a .links .now) (a .marks .now) (a .individuals) (a .count) table = reduced-serves (a .steps) (a .terms .now) (a .memberships .now) (a .links .now) (a .marks .now) (a .individuals) (a .count) net ends rows prepared table (f .ensures) in
+    vain-placed (a .steps) (a .terms .now) (a .memberships .now) (a .links .now) (a .marks .now) (a .individuals) (a .count) net ends rows prepared table serves _ (c .before .in-vain .ensures .0 (c .if1 .taken))
+
+place-from-requires : tie.Need-place-from-requires
+place-from-requires c κs =
+    let s = c .before .before .before .before .before .before .before .before .before .before .before .before .before .before .before .before .before .before .before .before .before .before .before .before .before .before .before .before .before .before .before .before .before .before .before in
+    let a = s .args in
+    let z = s .pre .1 .1 .1 .1 .0 in
+    let y = s .pre .1 .1 .1 .1 .1 in
+    let k = c .before .before .before .before .before .before .before .before .before .before .before .before .before .before .before .before .before .before .before .before .before .before .before .connect in
+    let r = c .before .before .before .before .before .before .before .before .before .before .before .before .before .before .before .before .before .fill-rows in
+    let net = k .last .1 .1 .1 .0 in
+    let ends = k .last .1 .1 .1 .1 .0 in
+    let rows = r .last .1 .1 .1 .1 .0 in
+    let problem : Problem (a .steps) (termCount (a .terms .now)) net ends (a .count) (a .individuals) rows = record {
+      laid = k .ensures .laid;
+      ends-long = omega (arith, k .kept .1 .1 .1 .1 .0, y .1);
+      right = k .ensures .right;
+      terms-few = s .pre .1 .1 .1 .0;
+      candidates-few = z .0;
+      individuals-few = omega (arith, z .2, individuals-at-most (a .steps) (a .terms .now) (a .memberships .now) (a .links .now) (s .pre .1 .0) (s .pre .1 .1 .0));
+      rows-long = omega (arith, r .kept .1 .1 .1 .1 .0, y .3);
+    } in
+    let f = c .before .before .before .before .before .before .before .before .before .before .fill-domains in
+    (record { problem = problem; table-long = omega (arith, f .kept .1 .1 .1 .1 .1 .1 .1 .1 .1 .0, y .4); gaps = f .ensures .gaps }, (omega arith, z .3, λ i l. absurd (omega arith)))
+
+same-length-5 : tie.Need-same-length-5
+same-length-5 c = search needs
+
+same-length-6 : tie.Need-same-length-6
+same-length-6 c = search needs
+
+same-length-7 : tie.Need-same-length-7
+same-length-7 c = search needs
+
+same-length-8 : tie.Need-same-length-8
+same-length-8 c = search needs
+
+same-length-9 : tie.Need-same-length-9
+same-length-9 c = search needs
+
+returns-2 : tie.Need-returns-2
+returns-2 c =
+    let s = c .before .before .before .before .before .before .before .before .before .before .before .before .before .before .before .before .before .before .before .before .before .before .before .before .before .before .before .before .before .before .before .before .before .before .before .before .before .before in
+    let a = s .args in
+    let z = s .pre .1 .1 .1 .1 .0 in
+    let y = s .pre .1 .1 .1 .1 .1 in
+    let k = c .before .before .before .before .before .before .before .before .before .before .before .before .before .before .before .before .before .before .before .before .before .before .before .before .before .before .connect in
+    let r = c .before .before .before .before .before .before .before .before .before .before .before .before .before .before .before .before .before .before .before .before .fill-rows in
+    let net = k .last .1 .1 .1 .0 in
+    let ends = k .last .1 .1 .1 .1 .0 in
+    let rows = r .last .1 .1 .1 .1 .0 in
+    let prepared : Prepared (a .steps) (a .terms .now) (a .memberships .now) (a .links .now) (a .marks .now) (a .individuals) (a .count) net ends rows = record {
+      terms-right = s .pre .0;
+      memberships-right = s .pre .1 .0;
+      links-right = s .pre .1 .1 .0;
+      candidates-few = z .0;
+      individuals-are = z .2;
+      network = k .ensures;
+      rowed = r .ensures;
+    } in
+    let f = c .before .before .before .before .before .before .before .before .before .before .before .before .before .fill-domains in
+    let table = f .last .1 .1 .1 .1 .1 .1 .1 .1 .1 .0 in
+    let serves : Serves (a .steps) (a .terms .now) (a .memberships .now) (a .links .now) (a .marks .now) (a .individuals) (a .count) table = reduced-serves (a .steps) (a .terms .now) (a .memberships .now) (a .links .now) (a .marks .now) (a .individuals) (a .count) net ends rows prepared table (f .ensures) in
+    let p = c .before .before .place-from in
+    found-placement (a .steps) (a .terms .now) (a .memberships .now) (a .links .now) (a .marks .now) (a .individuals) (a .count) net ends rows prepared table serves (p .result) (a .seats .now) (p .last .1 .1 .1 .1 .1 .1 .1 .1 .0) (p .ensures .1)
 
 pub place-in-spec : {M : Type 1} → statement M
 place-in-spec =
     tie.close
     (tie.spec
-    slice-aggregate-collect
-    collect-requires
-    array-share-prefix-quantified
-    slice-aggregate-place-by
-    place-by-requires
+    connect-requires
+    fill-rows-requires
+    fill-domains-requires
+    in-vain-requires
     same-length
     same-length-2
     same-length-3
-    returns)
+    same-length-4
+    returns
+    place-from-requires
+    same-length-5
+    same-length-6
+    same-length-7
+    same-length-8
+    same-length-9
+    returns-2)

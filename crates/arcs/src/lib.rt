@@ -1,0 +1,498 @@
+// Arc consistency over the domains of the individuals, under the constraints of the link claims.
+ghost use mathlib.Core.Path.{_≡_};
+ghost use Prim.Native.Nat.{ℕ, _+_, _*_, _<_, _≤_};
+ghost use lib.ListN.{length};
+ghost use Rattle.chain.specs.Decisions.{Tells};
+ghost use Rattle.network.specs.Constraints.{constraintCount, Met, AllMet, Right, AllRight};
+ghost use Rattle.domains.specs.Gaps.{Gaps};
+ghost use Rattle.domains.specs.Consistent.{FitsBy, Problem, Graded};
+ghost use Rattle.arcs.specs.Boxes.{Inside, Within, boundCount, boundAt, Asks, Narrowed};
+ghost use Rattle.arcs.specs.Arcs.{Sought, Tried, SupportedBy, SupportedTo, ArcConsistent, Pruned, Revised, RevisedBy};
+use domains::leap;
+use domains::note_gaps;
+use grades::row_at;
+use network::Constraint;
+use network::between;
+use network::constraint_at;
+use sections::wide;
+
+// The grades that a term may have: from `low` to `high`.
+pub struct Bound {
+    pub term: u8,
+    pub low: u8,
+    pub high: u8,
+}
+
+// ---- the box in which the rows lie that are compatible with a row
+
+// What a constraint asks of the target's row where the source has this one: nothing, or that the child is not above, or not below, the own grade.
+fn bound_target(steps: u8, k: Constraint, terms: usize, source: &[u8]) -> Bound
+    requires { ⌜ Right steps terms k × (terms ≤ length (now source)) ⌝ }
+    ensures { λ r. ⌜ Asks steps terms (Met steps k (now (source .entry))) r ⌝ }
+{
+    let own = source[wide(k.own)];
+    if k.kind == 4 {
+        if own < k.level {
+            return Bound {
+                term: k.child,
+                low: 0,
+                high: own,
+            };
+        }
+    }
+    if k.kind == 5 {
+        if steps - k.level < own {
+            return Bound {
+                term: k.child,
+                low: own,
+                high: steps,
+            };
+        }
+    }
+    Bound {
+        term: k.child,
+        low: 0,
+        high: steps,
+    }
+}
+
+// What it asks of the source's row where the target has this one: that the own grade is not below, or not above, what it takes from the child.
+fn bound_source(steps: u8, k: Constraint, terms: usize, target: &[u8]) -> Bound
+    requires { ⌜ Right steps terms k × (terms ≤ length (now target)) ⌝ }
+    ensures { λ r. ⌜ Asks steps terms (λ v. Met steps k v (now (target .entry))) r ⌝ }
+{
+    let child = target[wide(k.child)];
+    if k.kind == 4 {
+        return Bound {
+            term: k.own,
+            low: grades::lesser(k.level, child),
+            high: steps,
+        };
+    }
+    if k.kind == 5 {
+        return Bound {
+            term: k.own,
+            low: 0,
+            high: grades::greater(steps - k.level, child),
+        };
+    }
+    Bound {
+        term: k.own,
+        low: 0,
+        high: steps,
+    }
+}
+
+// Adds a bound as number `m`, if it leaves anything of the chain out. The number of bounds.
+fn put_bound(steps: u8, terms: usize, b: Bound, bounds: &mut [u8], m: usize) -> usize
+    requires { ⌜ (b .term < terms) × (3 * m + 3 ≤ length (now bounds)) ⌝ }
+    ensures { λ r. ⌜ Narrowed steps terms (Within b) (now (bounds .entry)) m (now (bounds .exit)) r ⌝ }
+    ensures { λ r. ⌜ r ≤ m + 1 ⌝ }
+{
+    if b.low == 0 {
+        if steps <= b.high {
+            return m;
+        }
+    }
+    bounds[3 * m] = b.term;
+    bounds[3 * m + 1] = b.low;
+    bounds[3 * m + 2] = b.high;
+    m + 1
+}
+
+// Adds what all constraints of a list ask of the target's row.
+fn bound_targets(
+    steps: u8,
+    s: &[u8],
+    terms: usize,
+    source: &[u8],
+    bounds: &mut [u8],
+    start: usize,
+) -> usize
+    requires { ⌜ AllRight steps terms (now s) × (terms ≤ length (now source)) × (3 * (start + constraintCount (now s)) ≤ length (now bounds)) ⌝ }
+    ensures { λ r. ⌜ Narrowed steps terms (AllMet steps (now (s .entry)) (now (source .entry))) (now (bounds .entry)) start (now (bounds .exit)) r ⌝ }
+    ensures { λ r. ⌜ r ≤ start + constraintCount (now (s .entry)) ⌝ }
+{
+    let count = s.len() / 4;
+    let mut m = start;
+    let mut y = 0;
+    while y < count {
+        let b = bound_target(steps, constraint_at(s, y), terms, source);
+        m = put_bound(steps, terms, b, bounds, m);
+        y += 1;
+    }
+    m
+}
+
+// Adds what they ask of the source's row.
+fn bound_sources(
+    steps: u8,
+    s: &[u8],
+    terms: usize,
+    target: &[u8],
+    bounds: &mut [u8],
+    start: usize,
+) -> usize
+    requires { ⌜ AllRight steps terms (now s) × (terms ≤ length (now target)) × (3 * (start + constraintCount (now s)) ≤ length (now bounds)) ⌝ }
+    ensures { λ r. ⌜ Narrowed steps terms (λ v. AllMet steps (now (s .entry)) v (now (target .entry))) (now (bounds .entry)) start (now (bounds .exit)) r ⌝ }
+    ensures { λ r. ⌜ r ≤ start + constraintCount (now (s .entry)) ⌝ }
+{
+    let count = s.len() / 4;
+    let mut m = start;
+    let mut y = 0;
+    while y < count {
+        let b = bound_source(steps, constraint_at(s, y), terms, target);
+        m = put_bound(steps, terms, b, bounds, m);
+        y += 1;
+    }
+    m
+}
+
+// Makes the box of the rows that are compatible with this one under the constraints forth and back. The number of its bounds.
+fn make_box(
+    steps: u8,
+    forth: &[u8],
+    back: &[u8],
+    terms: usize,
+    row: &[u8],
+    bounds: &mut [u8],
+) -> usize
+    requires { ⌜ AllRight steps terms (now forth) × AllRight steps terms (now back) × (terms ≤ length (now row)) ⌝ }
+    requires { ⌜ (constraintCount (now forth) ≤ 64) × (constraintCount (now back) ≤ 64) × (384 ≤ length (now bounds)) ⌝ }
+    ensures { λ r. ⌜ Narrowed steps terms (FitsBy steps (now (forth .entry)) (now (back .entry)) (now (row .entry))) (now (bounds .entry)) 0 (now (bounds .exit)) r ⌝ }
+    ensures { λ r. ⌜ r ≤ 128 ⌝ }
+{
+    let m = bound_targets(steps, forth, terms, row, bounds, 0);
+    bound_sources(steps, back, terms, row, bounds, m)
+}
+
+// Does the row lie in the box? The first bound that it passes decides.
+fn inside(bounds: &[u8], row: &[u8]) -> bool
+    requires { ⌜ ((x : ℕ) → x < boundCount (now bounds) → boundAt (now bounds) x .term < length (now row)) ⌝ }
+    ensures { λ r. ⌜ Tells r (Inside (now (bounds .entry)) (now (row .entry))) ⌝ }
+{
+    let count = bounds.len() / 3;
+    let mut x = 0;
+    while x < count {
+        let grade = row[wide(bounds[3 * x])];
+        if grade < bounds[3 * x + 1] {
+            return false;
+        }
+        if bounds[3 * x + 2] < grade {
+            return false;
+        }
+        x += 1;
+    }
+    true
+}
+
+// ---- support
+
+// The first candidate from `start` on and below `to` that individual `i` may have and whose row lies in the box; or a number that is not below `to`.
+fn seek(
+    bounds: &[u8],
+    table: &[u8],
+    rows: &[u8],
+    individuals: usize,
+    i: usize,
+    start: usize,
+    to: usize,
+    count: usize,
+) -> usize
+    requires { ⌜ (i < individuals) × (individuals ≤ 8) × (to ≤ count) × (count ≤ 16384) × (131072 ≤ length (now table)) × (1048576 ≤ length (now rows)) × Gaps (now table) individuals count ⌝ }
+    requires { ⌜ ((x : ℕ) → x < boundCount (now bounds) → boundAt (now bounds) x .term < 64) ⌝ }
+    ensures { λ r. ⌜ Sought (now (bounds .entry)) (now (table .entry)) (now (rows .entry)) i start to r ⌝ }
+{
+    let mut d = start;
+    while d < to {
+        let gap = leap(table, i, d);
+        if 0 < gap {
+            d += gap;
+            continue;
+        }
+        if inside(bounds, row_at(rows, d)) {
+            return d;
+        }
+        d += 1;
+    }
+    d
+}
+
+// The first from `hint` on, or else from 0 on, or `count`.
+fn seek_around(
+    bounds: &[u8],
+    table: &[u8],
+    rows: &[u8],
+    individuals: usize,
+    i: usize,
+    hint: usize,
+    count: usize,
+) -> usize
+    requires { ⌜ (i < individuals) × (individuals ≤ 8) × (hint ≤ count) × (count ≤ 16384) × (131072 ≤ length (now table)) × (1048576 ≤ length (now rows)) × Gaps (now table) individuals count ⌝ }
+    requires { ⌜ ((x : ℕ) → x < boundCount (now bounds) → boundAt (now bounds) x .term < 64) ⌝ }
+    ensures { λ r. ⌜ Sought (now (bounds .entry)) (now (table .entry)) (now (rows .entry)) i 0 count r ⌝ }
+{
+    let d = seek(bounds, table, rows, individuals, i, hint, count, count);
+    if d < count {
+        return d;
+    }
+    let e = seek(bounds, table, rows, individuals, i, 0, hint, count);
+    if e < hint {
+        return e;
+    }
+    count
+}
+
+// A candidate for individual `i` that is compatible with `c` for another, under the constraints forth and back; the search starts at `hint`. Or
+// a number that is not below `count`.
+fn support(
+    steps: u8,
+    forth: &[u8],
+    back: &[u8],
+    terms: usize,
+    count: usize,
+    individuals: usize,
+    table: &[u8],
+    rows: &[u8],
+    bounds: &mut [u8],
+    i: usize,
+    c: usize,
+    hint: usize,
+) -> usize
+    requires { ⌜ AllRight steps terms (now forth) × AllRight steps terms (now back) × (constraintCount (now forth) ≤ 64) × (constraintCount (now back) ≤ 64) × (terms ≤ 64) ⌝ }
+    requires { ⌜ (i < individuals) × (individuals ≤ 8) × (c < count) × (hint ≤ count) × (count ≤ 16384) ⌝ }
+    requires { ⌜ (131072 ≤ length (now table)) × (1048576 ≤ length (now rows)) × (384 ≤ length (now bounds)) × Gaps (now table) individuals count × Graded steps terms count individuals (now rows) (now table) ⌝ }
+    ensures { λ r. ⌜ Tried steps (now (forth .entry)) (now (back .entry)) count (now (rows .entry)) (now (table .entry)) i c r ⌝ }
+{
+    let m = make_box(steps, forth, back, terms, row_at(rows, c), bounds);
+    seek_around(&bounds[..3 * m], table, rows, individuals, i, hint, count)
+}
+
+// ---- revision
+
+// Takes from individual `j` the candidates that have no support by `i`, under the constraints between the two, forth and back. Was one taken
+// away?
+fn revise(
+    steps: u8,
+    forth: &[u8],
+    back: &[u8],
+    terms: usize,
+    count: usize,
+    individuals: usize,
+    rows: &[u8],
+    table: &mut [u8],
+    bounds: &mut [u8],
+    j: usize,
+    i: usize,
+) -> bool
+    requires { ⌜ AllRight steps terms (now forth) × AllRight steps terms (now back) × (constraintCount (now forth) ≤ 64) × (constraintCount (now back) ≤ 64) × (terms ≤ 64) ⌝ }
+    requires { ⌜ (j < individuals) × (i < individuals) × (individuals ≤ 8) × (¬ (i ≡ j)) × (count ≤ 16384) ⌝ }
+    requires { ⌜ (131072 ≤ length (now table)) × (1048576 ≤ length (now rows)) × (384 ≤ length (now bounds)) × Gaps (now table) individuals count × Graded steps terms count individuals (now rows) (now table) ⌝ }
+    ensures { λ r. ⌜ RevisedBy steps (now (forth .entry)) (now (back .entry)) count (now (rows .entry)) j i count r (now (table .entry)) (now (table .exit)) ⌝ }
+    ensures { λ _. ⌜ Gaps (now (table .exit)) individuals count ⌝ }
+{
+    let mut changed = false;
+    let mut hint = 0;
+    let mut next = 0;
+    while next < count {
+        let c = next;
+        let gap = leap(table, j, c);
+        if 0 < gap {
+            next += gap;
+            continue;
+        }
+        next += 1;
+        let d = support(
+            steps,
+            forth,
+            back,
+            terms,
+            count,
+            individuals,
+            table,
+            rows,
+            bounds,
+            i,
+            c,
+            hint,
+        );
+        if d < count {
+            hint = d;
+            continue;
+        }
+        table[16384 * j + c] = 0;
+        changed = true;
+    }
+    changed
+}
+
+// The same by the network, where there are constraints between the two. The gaps are noted anew.
+fn revise_by(
+    steps: u8,
+    net: &[u8],
+    ends: &[u16],
+    terms: usize,
+    count: usize,
+    individuals: usize,
+    rows: &[u8],
+    table: &mut [u8],
+    bounds: &mut [u8],
+    j: usize,
+    i: usize,
+) -> bool
+    requires { ⌜ Problem steps terms (now net) (now ends) count individuals (now rows) ⌝ }
+    requires { ⌜ (j < individuals) × (i < individuals) × (¬ (i ≡ j)) × (131072 ≤ length (now table)) × (384 ≤ length (now bounds)) ⌝ }
+    requires { ⌜ Gaps (now table) individuals count × Graded steps terms count individuals (now rows) (now table) ⌝ }
+    ensures { λ r. ⌜ Revised steps (now (net .entry)) (now (ends .entry)) count (now (rows .entry)) individuals
+        (SupportedBy steps (now (net .entry)) (now (ends .entry)) count (now (rows .entry)) j i) r (now (table .entry)) (now (table .exit)) ⌝ }
+    ensures { λ _. ⌜ Gaps (now (table .exit)) individuals count ⌝ }
+{
+    let forth = between(net, ends, j, i);
+    let back = between(net, ends, i, j);
+    if forth.len() == 0 {
+        if back.len() == 0 {
+            return false;
+        }
+    }
+    if !revise(
+        steps,
+        forth,
+        back,
+        terms,
+        count,
+        individuals,
+        rows,
+        table,
+        bounds,
+        j,
+        i,
+    ) {
+        return false;
+    }
+    note_gaps(table, count, j);
+    true
+}
+
+// Revises individual `j` by every other one. Was a candidate taken away?
+fn revise_all(
+    steps: u8,
+    net: &[u8],
+    ends: &[u16],
+    terms: usize,
+    count: usize,
+    individuals: usize,
+    rows: &[u8],
+    table: &mut [u8],
+    bounds: &mut [u8],
+    j: usize,
+) -> bool
+    requires { ⌜ Problem steps terms (now net) (now ends) count individuals (now rows) ⌝ }
+    requires { ⌜ (j < individuals) × (131072 ≤ length (now table)) × (384 ≤ length (now bounds)) ⌝ }
+    requires { ⌜ Gaps (now table) individuals count × Graded steps terms count individuals (now rows) (now table) ⌝ }
+    ensures { λ r. ⌜ Revised steps (now (net .entry)) (now (ends .entry)) count (now (rows .entry)) individuals
+        (SupportedTo steps (now (net .entry)) (now (ends .entry)) count (now (rows .entry)) j individuals) r (now (table .entry)) (now (table .exit)) ⌝ }
+    ensures { λ _. ⌜ Gaps (now (table .exit)) individuals count ⌝ }
+{
+    let mut changed = false;
+    let mut next = 0;
+    while next < individuals {
+        let i = next;
+        next += 1;
+        if i == j {
+            continue;
+        }
+        if revise_by(
+            steps,
+            net,
+            ends,
+            terms,
+            count,
+            individuals,
+            rows,
+            table,
+            bounds,
+            j,
+            i,
+        ) {
+            changed = true;
+        }
+    }
+    changed
+}
+
+// One pass over the individuals. Was a candidate taken away?
+fn pass(
+    steps: u8,
+    net: &[u8],
+    ends: &[u16],
+    terms: usize,
+    count: usize,
+    individuals: usize,
+    rows: &[u8],
+    table: &mut [u8],
+    bounds: &mut [u8],
+) -> bool
+    requires { ⌜ Problem steps terms (now net) (now ends) count individuals (now rows) ⌝ }
+    requires { ⌜ (131072 ≤ length (now table)) × (384 ≤ length (now bounds)) ⌝ }
+    requires { ⌜ Gaps (now table) individuals count × Graded steps terms count individuals (now rows) (now table) ⌝ }
+    ensures { λ r. ⌜ Revised steps (now (net .entry)) (now (ends .entry)) count (now (rows .entry)) individuals
+        (ArcConsistent steps (now (net .entry)) (now (ends .entry)) count (now (rows .entry)) individuals) r (now (table .entry)) (now (table .exit)) ⌝ }
+    ensures { λ _. ⌜ Gaps (now (table .exit)) individuals count ⌝ }
+{
+    let mut changed = false;
+    let mut j = 0;
+    while j < individuals {
+        if revise_all(
+            steps,
+            net,
+            ends,
+            terms,
+            count,
+            individuals,
+            rows,
+            table,
+            bounds,
+            j,
+        ) {
+            changed = true;
+        }
+        j += 1;
+    }
+    changed
+}
+
+// Takes candidates away that belong to no consistent placement, until the table is arc consistent.
+pub fn prune(
+    steps: u8,
+    net: &[u8],
+    ends: &[u16],
+    terms: usize,
+    count: usize,
+    individuals: usize,
+    rows: &[u8],
+    table: &mut [u8],
+)
+    requires { ⌜ Problem steps terms (now net) (now ends) count individuals (now rows) ⌝ }
+    requires { ⌜ 131072 ≤ length (now table) ⌝ }
+    requires { ⌜ Gaps (now table) individuals count × Graded steps terms count individuals (now rows) (now table) ⌝ }
+    ensures { λ _. ⌜ Pruned steps (now (net .entry)) (now (ends .entry)) count (now (rows .entry)) individuals (now (table .entry)) (now (table .exit)) ⌝ }
+    ensures { λ _. ⌜ ArcConsistent steps (now (net .entry)) (now (ends .entry)) count (now (rows .entry)) individuals (now (table .exit)) ⌝ }
+    ensures { λ _. ⌜ Gaps (now (table .exit)) individuals count ⌝ }
+{
+    let mut bounds = [0u8; 384];
+    loop {
+        if !pass(
+            steps,
+            net,
+            ends,
+            terms,
+            count,
+            individuals,
+            rows,
+            table,
+            &mut bounds,
+        ) {
+            return;
+        }
+    }
+}
