@@ -1,21 +1,14 @@
-// Reads the file of books.
+// Reads files of books.
 #include "books.h"
 #include <stdlib.h>
 #include <string.h>
 
-FILE *open_books(int argc, char **argv) {
-    FILE *file = argc == 2 ? fopen(argv[1], "r") : NULL;
-    if (!file) {
-        fprintf(stderr, "usage: %s FILE, a readable file of books\n", argv[0]);
-        exit(2);
-    }
-    return file;
-}
-
-static void malformed(const char *line) {
-    fprintf(stderr, "not in the form of a file of books: %s", line);
+static void stop(const char *why, const char *what) {
+    fprintf(stderr, "%s: %s\n", why, what);
     exit(2);
 }
+
+static void malformed(const char *line) { stop("not in the form of a file of books", line); }
 
 // A book's bytes, two hex digits each.
 static void read_bytes(const char *line, hard_book *book) {
@@ -28,7 +21,8 @@ static void read_bytes(const char *line, hard_book *book) {
     }
 }
 
-int next_book(FILE *file, hard_book *book) {
+// The next book of one file; 0 at its end.
+static int next_in(FILE *file, hard_book *book) {
     static char line[4 * MOST_BOOK_BYTES];
     int named = 0;
     while (fgets(line, sizeof line, file)) {
@@ -41,6 +35,20 @@ int next_book(FILE *file, hard_book *book) {
             return 1;
         }
     }
-    if (named) malformed("(a book without bytes)\n");
+    if (named) malformed("(a book without bytes)");
+    return 0;
+}
+
+int next_book(book_files *from, hard_book *book) {
+    while (from->file || *from->names) {
+        if (!from->file) {
+            from->file = fopen(*from->names, "r");
+            if (!from->file) stop("cannot be read", *from->names);
+            from->names++;
+        }
+        if (next_in(from->file, book)) return 1;
+        fclose(from->file);
+        from->file = NULL;
+    }
     return 0;
 }

@@ -1,4 +1,4 @@
-// The file of books: see the head of books.hex.
+// Files of books: see the head of books.hex.
 #ifndef BOOKS_H
 #define BOOKS_H
 #include <stddef.h>
@@ -14,10 +14,13 @@ typedef struct {
     size_t length;
 } hard_book;
 
-// Opens the file that the program was called with; ends the program if that fails.
-FILE *open_books(int argc, char **argv);
+// What is left to read: the file that is open, if one is, and the names of those after it, up to a NULL.
+typedef struct {
+    FILE *file;
+    char **names;
+} book_files;
 
-// Reads the next book; 0 at the end of the file. Ends the program if the file is not in its form.
-int next_book(FILE *file, hard_book *book);
+// Reads the next book; 0 at the end of the last file. Ends the program if a file cannot be read or is not in its form.
+int next_book(book_files *from, hard_book *book);
 
 #endif

@@ -42,12 +42,13 @@ static size_t used(void) {
 }
 
 int main(int argc, char **argv) {
-    FILE *file = open_books(argc, argv);
+    (void)argc;
+    book_files files = {.names = argv + 1};
     static hard_book worst;
     size_t most = 0;
     stack = mmap(NULL, STACK_BYTES, PROT_READ | PROT_WRITE, MAP_PRIVATE | MAP_ANONYMOUS | MAP_STACK, -1, 0);
     must(stack != MAP_FAILED, "a stack");
-    while (next_book(file, &book)) {
+    while (next_book(&files, &book)) {
         size_t bytes = used();
         printf("%-24s %9zu bytes\n", book.name, bytes);
         fflush(stdout);

@@ -8,7 +8,9 @@ mod support;
 
 use std::collections::{BTreeMap, BTreeSet};
 use std::env;
+use std::fs::File;
 use std::hint::black_box;
+use std::io::{Seek, Write};
 use std::thread;
 use std::time::Instant;
 
@@ -23,9 +25,6 @@ use support::calls::{self, Answer, Call};
 const SEED: u64 = 1;
 const CASES: u64 = 100_000;
 
-/// A book that takes more trials of seats than this is not decided.
-const MOST_TRIALS: usize = 100_000;
-
 #[test]
 fn library_and_plain_implementation_agree() {
     let (seed, cases) = (setting("ZEGBIKO_SEED").unwrap_or(SEED), setting("ZEGBIKO_CASES").unwrap_or(CASES));
@@ -37,8 +36,13 @@ fn library_and_plain_implementation_agree() {
     let start = Instant::now();
     let workers = thread::available_parallelism().map_or(1, usize::from);
     let work = |worker: usize| {
+        // If the library crashes, or does not end, this file tells at which case.
+        let mut note = File::create(format!("{}/differential-{worker}", env!("CARGO_TARGET_TMPDIR"))).expect("a file");
         let mut tally = Tally::new();
-        (worker as u64..cases).step_by(workers).for_each(|number| Case::run(seed, number, &mut tally));
+        for number in (worker as u64..cases).step_by(workers) {
+            note.rewind().and_then(|()| writeln!(note, "seed {seed} case {number}")).expect("a line");
+            Case::run(seed, number, &mut tally);
+        }
         tally
     };
     // These threads have Rust's default stack of 2 MB, which the wrapper says suffices.
@@ -69,7 +73,7 @@ impl Case<'_> {
     fn run(seed: u64, number: u64, tally: &mut Tally) {
         let mut random = Random::of(seed, number);
         let book = books::any(&mut random);
-        let plain = Plain::open(&book, MOST_TRIALS);
+        let plain = Plain::open(&book);
         let mut case = Case { seed, number, random, book, plain, tally };
         case.note_the_book();
         case.compare(Call::Check, &[]);
@@ -112,10 +116,6 @@ impl Case<'_> {
     }
 
     fn compare_deciding(&mut self) {
-        if self.plain.gives_up() {
-            self.tally.add("books not decided, too many trials", true);
-            return;
-        }
         let (marks, placement) = self.deciding_lengths();
         let ([refusal, outcome, ..], buffers) = self.compare(Call::Decide { marks, placement }, &[]);
         if refusal == 0 {

@@ -1,5 +1,6 @@
 //! The specification (document 01) once more, written from its text alone and the obvious way: bytes are read into plain
-//! values, each sentence is a function, and speed is no aim. It is the other side of the differential test.
+//! values, each sentence is a function, and speed is no aim but in placing. It is the other side of the differential
+//! test.
 //!
 //! A refusal is its number; `ask` is the rule "the first no gives the number".
 
@@ -28,15 +29,13 @@ fn ask(number: u8, yes: bool) -> Result<(), u8> {
 /// A book's bytes, read once, with the calls on them.
 pub struct Plain {
     book: Result<Book, u8>,
-    most_trials: usize,
     eliminated: OnceCell<Eliminated>,
-    decision: OnceCell<Option<Decision>>,
+    decision: OnceCell<Decision>,
 }
 
 impl Plain {
-    /// Some books place their individuals for hours, so trials of a seat are counted; see `gives_up`.
-    pub fn open(bytes: &[u8], most_trials: usize) -> Plain {
-        Plain { book: Book::read(bytes), most_trials, eliminated: OnceCell::new(), decision: OnceCell::new() }
+    pub fn open(bytes: &[u8]) -> Plain {
+        Plain { book: Book::read(bytes), eliminated: OnceCell::new(), decision: OnceCell::new() }
     }
 
     /// The book, after checks 1 to 9.
@@ -56,14 +55,9 @@ impl Plain {
         Ok(self.eliminated.get_or_init(|| book.eliminate()))
     }
 
-    fn decision(&self) -> Result<Option<&Decision>, u8> {
+    fn decision(&self) -> Result<&Decision, u8> {
         let (book, survivors) = (self.book()?, &self.eliminated()?.survivors);
-        Ok(self.decision.get_or_init(|| book.place(survivors, self.most_trials)).as_ref())
-    }
-
-    /// Whether placing takes too many trials; then the book is not to be decided here.
-    pub fn gives_up(&self) -> bool {
-        matches!(self.decision(), Ok(None))
+        Ok(self.decision.get_or_init(|| book.place(survivors)))
     }
 
     /// The decision and the number of survivors.
@@ -75,7 +69,7 @@ impl Plain {
         for (candidate, mark) in marks[..count].iter_mut().enumerate() {
             *mark = u8::from(survivors.contains_key(&candidate));
         }
-        let decision = self.decision()?.expect("few trials");
+        let decision = self.decision()?;
         if let Decision::HoldsTogether(places) = decision {
             for (bytes, &candidate) in placement.chunks_mut(2).zip(places) {
                 bytes.copy_from_slice(&(candidate as u16).to_be_bytes());

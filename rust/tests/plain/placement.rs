@@ -1,6 +1,8 @@
-//! Outcome and placement: seats are tried in dictionary order, and a beginning that breaks a claim is not continued.
+//! Outcome and placement. The individuals sit down in order, each at its lowest seat that leaves the later ones theirs.
 
-use super::book::{Book, Grade, LinkClaim};
+use std::collections::HashSet;
+
+use super::book::{Book, Grade};
 use super::elimination::Types;
 
 pub enum Decision {
@@ -10,62 +12,68 @@ pub enum Decision {
     NoModel,
 }
 
+/// For each individual, or each from some one on, a list of the candidates at which it may sit, ascending.
+pub type Seats = Vec<Vec<usize>>;
+
 impl Book {
-    /// Nothing, if the search takes more trials than it may.
-    pub fn place(&self, survivors: &Types, mut trials: usize) -> Option<Decision> {
+    pub fn place(&self, survivors: &Types) -> Decision {
         if survivors.is_empty() {
-            return Some(Decision::NoModel);
+            return Decision::NoModel;
         }
-        let seats = self.seats(survivors);
-        let mut places = Vec::new();
-        if seats.iter().any(Vec::is_empty) || !self.place_rest(&mut places, &seats, survivors, &mut trials)? {
-            return Some(Decision::ClaimsFail);
+        match self.first_placement(&self.seats(survivors), survivors, &mut HashSet::new()) {
+            Some(places) => Decision::HoldsTogether(places),
+            None => Decision::ClaimsFail,
         }
-        Some(Decision::HoldsTogether(places))
     }
 
-    /// For each individual the survivors that meet the claims about it alone, ascending.
-    pub fn seats(&self, survivors: &Types) -> Vec<Vec<usize>> {
+    /// For each individual the survivors that meet the claims about it alone.
+    pub fn seats(&self, survivors: &Types) -> Seats {
         let alone = |individual: usize, row: &[Grade]| {
             let mut memberships = self.memberships.iter().filter(|claim| claim.individual == individual);
-            let mut links = self.links.iter().filter(|claim| claim.from == individual && claim.to == individual);
-            memberships.all(|claim| claim.met_by(row)) && links.all(|claim| self.link_met(claim, row, row))
+            memberships.all(|claim| claim.met_by(row)) && self.links_met(individual, row, individual, row)
         };
         let seats_of = |individual| survivors.iter().filter(move |(_, row)| alone(individual, row)).map(|(&c, _)| c);
         (0..self.individuals()).map(|individual| seats_of(individual).collect()).collect()
     }
 
-    /// Adds places for the individuals that have none yet, and says whether that was possible.
-    fn place_rest(
-        &self,
-        places: &mut Vec<usize>,
-        seats: &[Vec<usize>],
-        survivors: &Types,
-        trials: &mut usize,
-    ) -> Option<bool> {
-        let individual = places.len();
-        if individual == seats.len() {
-            return Some(true);
+    /// The first placement, in dictionary order, of the last individuals, one for each list of seats: each is at a seat
+    /// of its list, and the link claims among them are met.
+    ///
+    /// It is the first because the leading individual tries its seats ascending, and each leaves to the others all
+    /// seats that fit it: no placement is passed over, and what follows is the first one for the seats left.
+    ///
+    /// Earlier individuals do not count here: the claims that tie them to these have told on the lists already. So
+    /// lists that had no placement have none when they come again; `in_vain` has them.
+    fn first_placement(&self, seats: &Seats, survivors: &Types, in_vain: &mut HashSet<Seats>) -> Option<Vec<usize>> {
+        let Some((own, later)) = seats.split_first() else { return Some(Vec::new()) };
+        if seats.iter().any(Vec::is_empty) || in_vain.contains(seats) {
+            return None;
         }
-        for &candidate in &seats[individual] {
-            *trials = trials.checked_sub(1)?;
-            places.push(candidate);
-            if self.newest_fits(places, survivors) && self.place_rest(places, seats, survivors, trials)? {
-                return Some(true);
+        let leading = self.individuals() - seats.len();
+        for &candidate in own {
+            let left = self.left(leading, candidate, later, survivors);
+            if let Some(places) = self.first_placement(&left, survivors, in_vain) {
+                return Some([vec![candidate], places].concat());
             }
-            places.pop();
         }
-        Some(false)
+        in_vain.insert(seats.clone());
+        None
     }
 
-    /// Whether the link claims between the individual placed last and those placed before are met.
-    fn newest_fits(&self, places: &[usize], survivors: &Types) -> bool {
-        let row_of = |individual: usize| &survivors[&places[individual]];
-        let mut concerned = self.links.iter().filter(|claim| claim.from.max(claim.to) == places.len() - 1);
-        concerned.all(|claim| self.link_met(claim, row_of(claim.from), row_of(claim.to)))
+    /// The seats of the later individuals that fit, when an individual sits at this candidate.
+    fn left(&self, individual: usize, candidate: usize, later: &[Vec<usize>], survivors: &Types) -> Seats {
+        let row = &survivors[&candidate];
+        let fits = |other: usize, seat: usize| {
+            let other_row = &survivors[&seat];
+            self.links_met(individual, row, other, other_row) && self.links_met(other, other_row, individual, row)
+        };
+        let fitting = |other, seats: &[usize]| seats.iter().copied().filter(|&seat| fits(other, seat)).collect();
+        (individual + 1..).zip(later).map(|(other, seats)| fitting(other, seats)).collect()
     }
 
-    fn link_met(&self, claim: &LinkClaim, from: &[Grade], to: &[Grade]) -> bool {
-        self.link(claim.role, from, to) >= claim.grade
+    /// Whether the link claims from one individual to another are met where they have these types.
+    fn links_met(&self, from: usize, from_row: &[Grade], to: usize, to_row: &[Grade]) -> bool {
+        let mut claims = self.links.iter().filter(|claim| claim.from == from && claim.to == to);
+        claims.all(|claim| self.link(claim.role, from_row, to_row) >= claim.grade)
     }
 }

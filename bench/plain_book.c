@@ -1,0 +1,57 @@
+// A book's sections, and the grades of its candidates.
+#include "plain_book.h"
+#include <stdbool.h>
+
+static int two_bytes(const uint8_t *b) { return b[0] << 8 | b[1]; }
+
+book sections(const uint8_t *b) {
+    return (book){
+        .steps = b[1],
+        .terms = b + two_bytes(b + 2),
+        .term_count = two_bytes(b + 4),
+        .rules = b + two_bytes(b + 6),
+        .rule_count = two_bytes(b + 8),
+        .members = b + two_bytes(b + 10),
+        .member_count = two_bytes(b + 12),
+        .links = b + two_bytes(b + 14),
+        .link_count = two_bytes(b + 16),
+    };
+}
+
+static bool is_place(int kind) { return kind == NAME || kind == SOME || kind == ALL; }
+
+int count_candidates(const book *k) {
+    int count = 1;
+    for (int i = 0; i < k->term_count; i++) {
+        if (!is_place(k->terms[3 * i])) continue;
+        count *= k->steps + 1;
+        if (count > MOST_CANDIDATES) return 0;
+    }
+    return count;
+}
+
+int count_individuals(const book *k) {
+    int most = 0;
+    for (int i = 0; i < k->member_count; i++)
+        if (k->members[4 * i] >= most) most = k->members[4 * i] + 1;
+    for (int i = 0; i < k->link_count; i++) {
+        if (k->links[4 * i + 1] >= most) most = k->links[4 * i + 1] + 1;
+        if (k->links[4 * i + 2] >= most) most = k->links[4 * i + 2] + 1;
+    }
+    return most;
+}
+
+void grades(const book *k, unsigned c, uint8_t row[MOST_TERMS]) {
+    unsigned base = k->steps + 1;
+    for (int i = 0; i < k->term_count; i++) {
+        const uint8_t *t = k->terms + 3 * i;
+        switch (t[0]) {
+        case NOT: row[i] = k->steps - row[t[1]]; break;
+        case AND: row[i] = row[t[1]] < row[t[2]] ? row[t[1]] : row[t[2]]; break;
+        case OR: row[i] = row[t[1]] > row[t[2]] ? row[t[1]] : row[t[2]]; break;
+        case TOP: row[i] = k->steps; break;
+        case BOTTOM: row[i] = 0; break;
+        default: row[i] = c % base; c /= base;
+        }
+    }
+}

@@ -1,0 +1,25 @@
+// A book's sections, and the grades of its candidates.
+#ifndef PLAIN_BOOK_H
+#define PLAIN_BOOK_H
+#include "plain.h"
+
+enum { NAME, NOT, AND, OR, SOME, ALL, TOP, BOTTOM }; // the kinds of terms
+enum { MOST_TERMS = 64, MOST_CLAIMS = 64, MOST_INDIVIDUALS = 8, MOST_QUANTIFIED = 16 };
+
+typedef struct {
+    int steps; // N
+    const uint8_t *terms, *rules, *members, *links;
+    int term_count, rule_count, member_count, link_count;
+} book;
+
+book sections(const uint8_t *bytes);
+
+// (N + 1) to the number of places, or 0 if that is more than the tables hold.
+int count_candidates(const book *k);
+
+int count_individuals(const book *k);
+
+// The grades of all terms in candidate c: a place takes the next digit, any other term follows from its children.
+void grades(const book *k, unsigned c, uint8_t row[MOST_TERMS]);
+
+#endif
