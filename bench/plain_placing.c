@@ -8,26 +8,26 @@ static void fill_rows(placing *p, const book *k, const uint8_t *marks) {
         if (marks[c]) grades(k, c, p->rows[c]);
 }
 
-// Appends the ties of a link claim, one for each quantified term of its role; gives their number.
-static int add_ties(placing *p, const book *k, const uint8_t *link, int n) {
+// Appends the constraints of a link claim, one for each quantified term of its role; gives their number.
+static int add_constraints(placing *p, const book *k, const uint8_t *link, int n) {
     for (int i = 0; i < k->term_count; i++) {
         const uint8_t *t = k->terms + 3 * i;
-        if ((t[0] == SOME || t[0] == ALL) && t[1] == link[0]) p->ties[n++] = (tie){link[1], link[2], t[0], link[3], i, t[2]};
+        if ((t[0] == SOME || t[0] == ALL) && t[1] == link[0]) p->constraints[n++] = (constraint){link[1], link[2], t[0], link[3], i, t[2]};
     }
     return n;
 }
 
-// Appends the ties of the link claims whose later individual is j: those of j and itself, or those of j and an earlier one.
+// Appends the constraints of the link claims whose later individual is j: those of j and itself, or those of j and an earlier one.
 static int add_claims(placing *p, const book *k, int j, bool itself, int n) {
     for (int i = 0; i < k->link_count; i++) {
         const uint8_t *l = k->links + 4 * i;
         int later = l[1] > l[2] ? l[1] : l[2];
-        if (later == j && (l[1] == l[2]) == itself) n = add_ties(p, k, l, n);
+        if (later == j && (l[1] == l[2]) == itself) n = add_constraints(p, k, l, n);
     }
     return n;
 }
 
-static void collect_ties(placing *p, const book *k) {
+static void collect_constraints(placing *p, const book *k) {
     int n = 0;
     for (int j = 0; j < p->individuals; j++) {
         p->first[j] = n;
@@ -37,8 +37,8 @@ static void collect_ties(placing *p, const book *k) {
     p->first[p->individuals] = n;
 }
 
-// Whether the rows of the source and of the target meet the tie.
-static bool met(int steps, const tie *t, const uint8_t *source, const uint8_t *target) {
+// Whether the rows of the source and of the target meet the constraint.
+static bool met(int steps, const constraint *t, const uint8_t *source, const uint8_t *target) {
     int own = source[t->own], child = target[t->child];
     if (t->kind == SOME) return (child < t->level ? child : t->level) <= own;
     return own <= (child > steps - t->level ? child : steps - t->level);
@@ -56,7 +56,7 @@ static bool meets_members(const book *k, int j, const uint8_t *row) {
 
 static bool meets_itself(const placing *p, int j, const uint8_t *row) {
     for (int x = p->first[j]; x < p->others[j]; x++)
-        if (!met(p->steps, &p->ties[x], row, row)) return false;
+        if (!met(p->steps, &p->constraints[x], row, row)) return false;
     return true;
 }
 
@@ -72,11 +72,21 @@ static bool someone_has_none(const placing *p) {
     return false;
 }
 
-// Whether the last of those placed meets the ties with those before it.
+// Whether the last of those placed meets the constraints with those before it.
 static bool fits(const placing *p, const int *at, int last) {
     for (int x = p->others[last]; x < p->first[last + 1]; x++) {
-        const tie *t = &p->ties[x];
+        const constraint *t = &p->constraints[x];
         if (!met(p->steps, t, p->rows[at[t->source]], p->rows[at[t->target]])) return false;
+    }
+    return true;
+}
+
+// Places each individual at the first candidate that fits those before it; false if there is none for one of them.
+static bool place_at_once(const placing *p, int *at) {
+    for (int j = 0; j < p->individuals; j++) {
+        at[j] = next_allowed(p->table[j], 0, p->count);
+        while (at[j] < p->count && !fits(p, at, j)) at[j] = next_allowed(p->table[j], at[j] + 1, p->count);
+        if (at[j] >= p->count) return false;
     }
     return true;
 }
@@ -97,9 +107,11 @@ bool place(const book *k, int count, int individuals, const uint8_t *marks, int 
     p->count = count;
     p->individuals = individuals;
     fill_rows(p, k, marks);
-    collect_ties(p, k);
+    collect_constraints(p, k);
     filter(p, k, marks);
+    if (someone_has_none(p)) return false;
     thin(p);
+    if (place_at_once(p, at)) return true;
     prune(p);
     return !someone_has_none(p) && search(p, 0, at);
 }

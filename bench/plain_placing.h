@@ -1,17 +1,17 @@
-// What placing goes by: the candidates' rows, the ties between individuals, and the table of what each individual may have.
+// What placing goes by: the candidates' rows, the constraints between individuals, and the table of what each individual may have.
 #ifndef PLAIN_PLACING_H
 #define PLAIN_PLACING_H
 #include "plain_book.h"
 #include <stdbool.h>
 
-enum { MOST_TIES = MOST_CLAIMS * MOST_QUANTIFIED };
+enum { MOST_CONSTRAINTS = MOST_CLAIMS * MOST_QUANTIFIED };
 
 // What a link claim asks by one quantified term of its role: of the term itself at the source, and of its child at the target.
 typedef struct {
     uint8_t source, target;
     uint8_t kind, level; // SOME or ALL; what the link is at least
     uint8_t own, child;
-} tie;
+} constraint;
 
 typedef struct {
     int steps, count, individuals;
@@ -21,7 +21,7 @@ typedef struct {
     uint8_t table[MOST_INDIVIDUALS][MOST_CANDIDATES];
 
     // Sorted by the later of the two individuals: those of j start at first[j]; those of j and itself, which come first, end at others[j].
-    tie ties[MOST_TIES];
+    constraint constraints[MOST_CONSTRAINTS];
     int first[MOST_INDIVIDUALS + 1], others[MOST_INDIVIDUALS];
 } placing;
 
@@ -34,7 +34,7 @@ static inline int next_allowed(const uint8_t *may, int c, int end) {
     return c;
 }
 
-// Keeps, of the candidates that the ties cannot tell apart, the first. (plain_pruning.c, like the next)
+// Keeps, of the candidates that the constraints cannot tell apart, the first. (plain_pruning.c, like the next)
 void thin(placing *p);
 
 // Takes candidates away for which some other individual has none that fits, until there is no more such.

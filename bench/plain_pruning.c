@@ -8,7 +8,7 @@
 static int list_read(const placing *p, int j, uint8_t read[MOST_TERMS]) {
     bool seen[MOST_TERMS] = {false};
     for (int x = 0; x < p->first[p->individuals]; x++) {
-        const tie *t = &p->ties[x];
+        const constraint *t = &p->constraints[x];
         if (t->source == t->target) continue;
         if (t->source == j) seen[t->own] = true;
         if (t->target == j) seen[t->child] = true;
@@ -76,8 +76,8 @@ typedef struct {
     uint8_t term, low, high;
 } bound;
 
-// What the source's row asks of the target by a tie.
-static bound of_target(int steps, const tie *t, const uint8_t *source) {
+// What the source's row asks of the target by a constraint.
+static bound of_target(int steps, const constraint *t, const uint8_t *source) {
     int own = source[t->own];
     bound b = {t->child, 0, steps};
     if (t->kind == SOME && own < t->level) b.high = own;
@@ -86,7 +86,7 @@ static bound of_target(int steps, const tie *t, const uint8_t *source) {
 }
 
 // What the target's row asks of the source.
-static bound of_source(int steps, const tie *t, const uint8_t *target) {
+static bound of_source(int steps, const constraint *t, const uint8_t *target) {
     int child = target[t->child], least = steps - t->level;
     bound b = {t->own, 0, steps};
     if (t->kind == SOME) b.low = child < t->level ? child : t->level;
@@ -94,11 +94,11 @@ static bound of_source(int steps, const tie *t, const uint8_t *target) {
     return b;
 }
 
-// The box: what the row of individual j asks of the other one by the n ties between them; gives the number of bounds.
-static int make_box(int steps, const tie *ties, int n, int j, const uint8_t *row, bound *box) {
+// The box: what the row of individual j asks of the other one by the n constraints between them; gives the number of bounds.
+static int make_box(int steps, const constraint *constraints, int n, int j, const uint8_t *row, bound *box) {
     int m = 0;
     for (int x = 0; x < n; x++) {
-        const tie *t = &ties[x];
+        const constraint *t = &constraints[x];
         bound b = t->source == j ? of_target(steps, t, row) : of_source(steps, t, row);
         if (b.low > 0 || b.high < steps) box[m++] = b;
     }
@@ -132,25 +132,25 @@ static bool seek_around(const placing *p, const bound *box, int m, int i, int *h
     return true;
 }
 
-// Selects the ties between two individuals; gives their number.
-static int select_ties(const placing *p, int earlier, int later, tie *ties) {
+// Selects the constraints between two individuals; gives their number.
+static int select_constraints(const placing *p, int earlier, int later, constraint *constraints) {
     int n = 0;
     for (int x = p->others[later]; x < p->first[later + 1]; x++)
-        if (p->ties[x].source == earlier || p->ties[x].target == earlier) ties[n++] = p->ties[x];
+        if (p->constraints[x].source == earlier || p->constraints[x].target == earlier) constraints[n++] = p->constraints[x];
     return n;
 }
 
 // Takes from individual j the candidates with which none fits that i may have. Whether there was one.
 static bool revise(placing *p, int j, int i) {
-    tie ties[MOST_TIES];
-    bound box[MOST_TIES];
-    int n = i < j ? select_ties(p, i, j, ties) : select_ties(p, j, i, ties);
+    constraint constraints[MOST_CONSTRAINTS];
+    bound box[MOST_CONSTRAINTS];
+    int n = i < j ? select_constraints(p, i, j, constraints) : select_constraints(p, j, i, constraints);
     if (n == 0) return false;
     bool taken = false;
     uint8_t *may = p->table[j];
     int hint = 0;
     for (int c = next_allowed(may, 0, p->count); c < p->count; c = next_allowed(may, c + 1, p->count)) {
-        int m = make_box(p->steps, ties, n, j, p->rows[c], box);
+        int m = make_box(p->steps, constraints, n, j, p->rows[c], box);
         if (m == 0 || seek_around(p, box, m, i, &hint)) continue;
         may[c] = 0;
         taken = true;

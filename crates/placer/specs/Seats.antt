@@ -60,3 +60,14 @@ pub record Setting (N m : ℕ) (net ends : List ℕ) (count n : ℕ) (table rows
 -- the first k individuals sit at candidates
 abbrev pub SeatedBelow : (seats : List ℕ) (k : ℕ) → Type 0
 SeatedBelow seats k = (i : ℕ) → i < k → seat seats i < 16384
+
+-- candidate c is allowed to individual k and compatible with those of the k before it, who sit at the seats
+abbrev pub FitsNext : (N : ℕ) (net ends rows table seats : List ℕ) (k c : ℕ) → Type 0
+FitsNext N net ends rows table seats k c =
+    Allowed table k c × ((i : ℕ) → i < k → Fits N net ends i k (rowAt rows (seat seats i)) (rowAt rows c))
+
+-- r is the first such candidate from `start` on, if it is below count
+pub record NextFit (N : ℕ) (net ends rows table : List ℕ) (count : ℕ) (seats : List ℕ) (k start r : ℕ) : Type 0 where
+  pub from-start : start ≤ r
+  pub fits : r < count → FitsNext N net ends rows table seats k r
+  pub none : (e : ℕ) → start ≤ e → e < r → e < count → ¬ FitsNext N net ends rows table seats k e

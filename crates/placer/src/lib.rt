@@ -1,5 +1,6 @@
 // Placing the individuals: the first placement in dictionary order at marked candidates that meets every claim.
 ghost use mathlib.Core.Path.{_≡_};
+ghost use mathlib.Core.Bool.{true};
 ghost use mathlib.Core.List.{[]};
 ghost use Prim.Native.Nat.{ℕ, _+_, _-_, _*_, _<_, _≤_};
 ghost use lib.ListN.{length, getD, take, drop};
@@ -9,14 +10,12 @@ ghost use Rattle.sections.specs.Terms.{termCount, TermsRight};
 ghost use Rattle.sections.specs.Claims.{MembershipsRight, LinksRight};
 ghost use Rattle.sections.specs.Books.{bookOfSections};
 ghost use Rattle.grades.specs.Rows.{rowAt};
-ghost use Rattle.elimination.specs.Marks.{Marked, marked};
+ghost use Rattle.elimination.specs.Marks.{marked};
 ghost use Rattle.placement.specs.Outcome.{placementAmong};
-ghost use Rattle.network.specs.Constraints.{OnChain};
-ghost use Rattle.domains.specs.Consistent.{Fits, Problem};
+ghost use Rattle.domains.specs.Consistent.{Fits, Problem, Graded};
 ghost use Rattle.placer.specs.Walk.{placed};
 ghost use Rattle.placer.specs.Rows.{Rowed};
-ghost use Rattle.placer.specs.Serving.{Reduced};
-ghost use Rattle.placer.specs.Seats.{walkOf, Setting, SeatedBelow};
+ghost use Rattle.placer.specs.Seats.{walkOf, Setting, SeatedBelow, NextFit};
 use domains::in_vain;
 use domains::leap;
 use domains::note_all_gaps;
@@ -113,6 +112,51 @@ fn fits_seated(
     true
 }
 
+// The first candidate from `start` on that individual `k` may have and that is compatible with those of the individuals before it; or a number
+// that is not below `count`.
+fn next_fit(
+    steps: u8,
+    net: &[u8],
+    ends: &[u16],
+    terms: usize,
+    count: usize,
+    individuals: usize,
+    table: &[u8],
+    rows: &[u8],
+    seats: &[u16],
+    k: usize,
+    start: usize,
+) -> usize
+    requires { ⌜ Setting steps terms (now net) (now ends) count individuals (now table) (now rows) ⌝ }
+    requires { ⌜ (k < individuals) × (k ≤ length (now seats)) × SeatedBelow (now seats) k ⌝ }
+    ensures { λ r. ⌜ NextFit steps (now (net .entry)) (now (ends .entry)) (now (rows .entry)) (now (table .entry)) count (now (seats .entry)) k start r ⌝ }
+{
+    let mut c = start;
+    while c < count {
+        let gap = leap(table, k, c);
+        if 0 < gap {
+            c += gap;
+            continue;
+        }
+        if fits_seated(
+            steps,
+            net,
+            ends,
+            terms,
+            count,
+            individuals,
+            rows,
+            seats,
+            k,
+            c,
+        ) {
+            return c;
+        }
+        c += 1;
+    }
+    c
+}
+
 // Places the individuals from `k` on, those before them being seated: a plain search in the order of the candidates.
 fn place_from(
     steps: u8,
@@ -137,27 +181,23 @@ fn place_from(
     }
     let mut next = 0;
     while next < count {
-        let c = next;
-        let gap = leap(table, k, c);
-        if 0 < gap {
-            next = c + gap;
-            continue;
-        }
-        next = c + 1;
-        if !fits_seated(
+        let c = next_fit(
             steps,
             net,
             ends,
             terms,
             count,
             individuals,
+            table,
             rows,
             seats,
             k,
-            c,
-        ) {
-            continue;
+            next,
+        );
+        if count <= c {
+            return false;
         }
+        next = c + 1;
         seats[k] = c as u16;
         if place_from(
             steps,
@@ -177,44 +217,127 @@ fn place_from(
     false
 }
 
-// ---- the whole search
-
-// Fills the table, empty so far: the candidates that the filter leaves are thinned to one of each class, and then those that belong to no
-// consistent placement are taken away.
-fn fill_domains(
+// Places each individual at the first candidate that is compatible with those before it. If there is one for each, this is what the search finds.
+fn place_at_once(
     steps: u8,
-    memberships: &[u8],
     net: &[u8],
     ends: &[u16],
     terms: usize,
-    marks: &[u8],
+    count: usize,
+    individuals: usize,
+    table: &[u8],
+    rows: &[u8],
+    seats: &mut [u16],
+) -> bool
+    requires { ⌜ Setting steps terms (now net) (now ends) count individuals (now table) (now rows) ⌝ }
+    requires { ⌜ individuals ≤ length (now seats) ⌝ }
+    ensures { λ r. ⌜ (r ≡ true
+        → placed r (take individuals (now (seats .exit))) ≡ walkOf steps (now (net .entry)) (now (ends .entry)) (now (rows .entry)) (now (table .entry)) count individuals []) ⌝ }
+{
+    let mut k = 0;
+    while k < individuals {
+        let c = next_fit(
+            steps,
+            net,
+            ends,
+            terms,
+            count,
+            individuals,
+            table,
+            rows,
+            seats,
+            k,
+            0,
+        );
+        if count <= c {
+            return false;
+        }
+        seats[k] = c as u16;
+        k += 1;
+    }
+    true
+}
+
+// ---- the whole search: the same is found in fewer candidates
+
+// Makes the table arc consistent, and searches.
+fn place_pruned(
+    steps: u8,
+    net: &[u8],
+    ends: &[u16],
+    terms: usize,
     count: usize,
     individuals: usize,
     rows: &[u8],
     table: &mut [u8],
-)
-    requires { ⌜ MembershipsRight (now memberships) steps terms ⌝ }
-    requires { ⌜ Problem steps terms (now net) (now ends) count individuals (now rows) ⌝ }
-    requires { ⌜ ((c : ℕ) → c < count → Marked (now marks) c → OnChain steps terms (rowAt (now rows) c)) ⌝ }
-    requires { ⌜ (count ≤ length (now marks)) × (131072 ≤ length (now table)) × ((i : ℕ) → getD (now table) i 0 ≡ 0) ⌝ }
-    ensures { λ _. ⌜ Reduced steps (now (memberships .entry)) (now (net .entry)) (now (ends .entry)) (now (marks .entry)) (now (rows .entry)) individuals count
-        (now (table .exit)) ⌝ }
+    seats: &mut [u16],
+) -> bool
+    requires { ⌜ Setting steps terms (now net) (now ends) count individuals (now table) (now rows) ⌝ }
+    requires { ⌜ (individuals ≤ length (now seats)) × Graded steps terms count individuals (now rows) (now table) ⌝ }
+    ensures { λ r. ⌜ placed r (take individuals (now (seats .exit)))
+        ≡ walkOf steps (now (net .entry)) (now (ends .entry)) (now (rows .entry)) (now (table .entry)) count individuals [] ⌝ }
 {
-    filter::fill_table(
+    arcs::prune(steps, net, ends, terms, count, individuals, rows, table);
+    if in_vain(table, count, individuals) {
+        return false;
+    }
+    place_from(
         steps,
-        memberships,
         net,
         ends,
         terms,
-        marks,
+        count,
+        individuals,
+        table,
+        rows,
+        seats,
+        0,
+    )
+}
+
+// Thins the table to one candidate a class. Where the first ones do not go together at once, it is worth pruning.
+fn place_thinned(
+    steps: u8,
+    net: &[u8],
+    ends: &[u16],
+    terms: usize,
+    count: usize,
+    individuals: usize,
+    rows: &[u8],
+    table: &mut [u8],
+    seats: &mut [u16],
+) -> bool
+    requires { ⌜ Problem steps terms (now net) (now ends) count individuals (now rows) ⌝ }
+    requires { ⌜ (131072 ≤ length (now table)) × (individuals ≤ length (now seats)) × Graded steps terms count individuals (now rows) (now table) ⌝ }
+    ensures { λ r. ⌜ placed r (take individuals (now (seats .exit)))
+        ≡ walkOf steps (now (net .entry)) (now (ends .entry)) (now (rows .entry)) (now (table .entry)) count individuals [] ⌝ }
+{
+    classes::thin(steps, net, ends, terms, count, individuals, rows, table);
+    note_all_gaps(table, count, individuals);
+    if place_at_once(
+        steps,
+        net,
+        ends,
+        terms,
+        count,
+        individuals,
+        table,
+        rows,
+        seats,
+    ) {
+        return true;
+    }
+    place_pruned(
+        steps,
+        net,
+        ends,
+        terms,
         count,
         individuals,
         rows,
         table,
-    );
-    classes::thin(steps, net, ends, terms, count, individuals, rows, table);
-    note_all_gaps(table, count, individuals);
-    arcs::prune(steps, net, ends, terms, count, individuals, rows, table);
+        seats,
+    )
 }
 
 // The same as `place`, with room that is lent.
@@ -246,7 +369,7 @@ fn place_in(
     network::connect(terms, steps, links, net, ends);
     fill_rows(terms, steps, marks, count, rows);
     let k = terms.len() / 3;
-    fill_domains(
+    filter::fill_table(
         steps,
         memberships,
         net,
@@ -261,18 +384,7 @@ fn place_in(
     if in_vain(table, count, individuals) {
         return false;
     }
-    place_from(
-        steps,
-        net,
-        ends,
-        k,
-        count,
-        individuals,
-        table,
-        rows,
-        seats,
-        0,
-    )
+    place_thinned(steps, net, ends, k, count, individuals, rows, table, seats)
 }
 
 // The first placement of the individuals at marked candidates that meets every claim. Where there is none the answer is false, and what the

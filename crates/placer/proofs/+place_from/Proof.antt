@@ -9,15 +9,13 @@ use lib.ListN.{length, take, drop, length-set}
 use borrow.Author.Needs.{needs}
 use borrow.Fn.Kinds.{In}
 use borrow.Fn.PlainCycle.{Measures, is, falls, and}
-use Rattle.placer.proofs.Seats.{seated-same, seated-next, restOf, no-one-left, loop-start, loop-end, turn-leap, turn-unfit, turn-back, turn-found, seats-kept}
+use Rattle.placer.proofs.Seats.{seated-same, seated-next, restOf, no-one-left, loop-start, loop-end, turn-none, turn-back, turn-found, seats-kept}
 use Rattle.placer.proofs.Walk.{placed-true, placed-false}
 use Rattle.placer.specs.Seats.{walkOf}
-use Rattle.chain.proofs.Decisions.{told-yes, told-no}
 use Rattle.placer.proofs.place_from.Reads as place-from
 use Rattle.placer.proofs.place_from.Kinds as place-from-kinds
 use Rattle.placer.proofs.+place_from.Lts-place_from as place-from-lts
-use Rattle.domains.proofs.leap.Reads as leap-reads
-use Rattle.placer.proofs.fits_seated.Reads as fits-seated-reads
+use Rattle.placer.proofs.next_fit.Reads as next-fit-reads
 use Rattle.placer.proofs.+place_from.{statement}
 use Rattle.placer.proofs.+place_from.Tie.{close}
 
@@ -41,10 +39,8 @@ abbrev place-from-μ-loop : place-from-lts.MeasureT-loop
 place-from-μ-loop steps net ends terms count individuals table rows seats₀ k next₀ seats next = count - next
 
 place-from-returns : (t : ℕ) → place-from-lts.Need-returns (
-  leap-reads.Asked,
-  leap-reads.Learnt,
-  fits-seated-reads.Asked,
-  fits-seated-reads.Learnt,
+  next-fit-reads.Asked,
+  next-fit-reads.Learnt,
   place-from-below t,
   place-from.Post,
 ) (place-from-at t) place-from.Post place-from-Inv-loop place-from-μ-loop
@@ -55,10 +51,8 @@ place-from-returns t c =
     (refl, placed-true true (take (a .individuals - a .k) (drop (a .k) (a .seats .now))) refl ∙ no-one-left (a .steps) (a .net .now) (a .ends .now) (a .rows .now) (a .table .now) (a .count) (a .individuals) (a .k) q (drop (a .k) (a .seats .now)) (c .if1 .taken))
 
 place-from-loop-holds : (t : ℕ) → place-from-lts.Need-loop-holds (
-  leap-reads.Asked,
-  leap-reads.Learnt,
-  fits-seated-reads.Asked,
-  fits-seated-reads.Learnt,
+  next-fit-reads.Asked,
+  next-fit-reads.Learnt,
   place-from-below t,
   place-from.Post,
 ) (place-from-at t) place-from.Post place-from-Inv-loop place-from-μ-loop
@@ -69,266 +63,165 @@ place-from-loop-holds t c =
     let h : a .k < a .individuals = omega (arith, c .if1 .left, s .pre .1 .1 .0) in
     (refl, refl, h, loop-start (a .steps) (a .net .now) (a .ends .now) (a .rows .now) (a .table .now) (a .count) (a .individuals) (a .k) q h)
 
-place-from-leap-requires : (t : ℕ) → place-from-lts.Need-leap-requires (
-  leap-reads.Asked,
-  leap-reads.Learnt,
-  fits-seated-reads.Asked,
-  fits-seated-reads.Learnt,
+place-from-next-fit-requires : (t : ℕ) → place-from-lts.Need-next-fit-requires (
+  next-fit-reads.Asked,
+  next-fit-reads.Learnt,
   place-from-below t,
   place-from.Post,
 ) (place-from-at t) place-from.Post place-from-Inv-loop place-from-μ-loop
-place-from-leap-requires t c κs =
-    let s = c .before .before .before .before .before .before .before .before in
+place-from-next-fit-requires t c κs =
+    let s = c .before .before .before .before .before .before .before .before .before in
     let a = s .args in
     let q = take (a .k) (a .seats .now) in
-    let l = c .before .loop in
-    let w = s .pre .1 .0 in
-    (omega (arith, l .inv .2, w .problem .individuals-few), omega (arith, c .loop-test .taken, w .problem .candidates-few), w .table-long, w .gaps (a .k) (l .inv .2) (l .next) (omega arith) (c .loop-test .taken))
+    let l = c .before .before .loop in
+    (s .pre .1 .0, (l .inv .2, omega (arith, l .inv .0, l .inv .2, s .pre .1 .1 .1), (seated-same (a .seats .now) (l .seats) (a .k) (l .inv .1) (s .pre .1 .1 .2))))
 
-place-from-add-next : (t : ℕ) → place-from-lts.Need-add-next (
-  leap-reads.Asked,
-  leap-reads.Learnt,
-  fits-seated-reads.Asked,
-  fits-seated-reads.Learnt,
+place-from-same-length : (t : ℕ) → place-from-lts.Need-same-length (
+  next-fit-reads.Asked,
+  next-fit-reads.Learnt,
   place-from-below t,
   place-from.Post,
 ) (place-from-at t) place-from.Post place-from-Inv-loop place-from-μ-loop
-place-from-add-next t c =
-    let s = c .before .before .before .before .before .before .before .before .before .before in
-    let a = s .args in
-    let q = take (a .k) (a .seats .now) in
-    let l = c .before .before .before .loop in
-    let w = s .pre .1 .0 in
-    omega (arith, c .before .leap .ensures .2, c .before .before .loop-test .taken, w .problem .candidates-few)
+place-from-same-length t c = c .before .before .before .before .loop .inv .0
 
-place-from-loop-less : (t : ℕ) → place-from-lts.Need-loop-less (
-  leap-reads.Asked,
-  leap-reads.Learnt,
-  fits-seated-reads.Asked,
-  fits-seated-reads.Learnt,
+place-from-returns-2 : (t : ℕ) → place-from-lts.Need-returns-2 (
+  next-fit-reads.Asked,
+  next-fit-reads.Learnt,
   place-from-below t,
   place-from.Post,
 ) (place-from-at t) place-from.Post place-from-Inv-loop place-from-μ-loop
-place-from-loop-less t c = omega (arith, c .if2 .taken, c .before .before .loop-test .taken)
-
-place-from-loop-again : (t : ℕ) → place-from-lts.Need-loop-again (
-  leap-reads.Asked,
-  leap-reads.Learnt,
-  fits-seated-reads.Asked,
-  fits-seated-reads.Learnt,
-  place-from-below t,
-  place-from.Post,
-) (place-from-at t) place-from.Post place-from-Inv-loop place-from-μ-loop
-place-from-loop-again t c =
-    let s = c .before .before .before .before .before .before .before .before .before .before in
-    let a = s .args in
-    let q = take (a .k) (a .seats .now) in
-    let l = c .before .before .before .loop in
-    let w = s .pre .1 .0 in
-    (l .inv .0, l .inv .1, l .inv .2, turn-leap (a .steps) (a .net .now) (a .ends .now) (a .rows .now) (a .table .now) (a .count) (a .individuals) (a .k) q (walkOf (a .steps) (a .net .now) (a .ends .now) (a .rows .now) (a .table .now) (a .count) (a .individuals - a .k) q) (l .next) (l .inv .3) (l .seats) (omega (arith, l .inv .0, l .inv .2, s .pre .1 .1 .1)) (l .inv .1) (c .before .leap .result) (c .before .leap .ensures))
-
-place-from-add-next-2 : (t : ℕ) → place-from-lts.Need-add-next-2 (
-  leap-reads.Asked,
-  leap-reads.Learnt,
-  fits-seated-reads.Asked,
-  fits-seated-reads.Learnt,
-  place-from-below t,
-  place-from.Post,
-) (place-from-at t) place-from.Post place-from-Inv-loop place-from-μ-loop
-place-from-add-next-2 t c = search needs
-
-place-from-fits-seated-requires : (t : ℕ) → place-from-lts.Need-fits-seated-requires (
-  leap-reads.Asked,
-  leap-reads.Learnt,
-  fits-seated-reads.Asked,
-  fits-seated-reads.Learnt,
-  place-from-below t,
-  place-from.Post,
-) (place-from-at t) place-from.Post place-from-Inv-loop place-from-μ-loop
-place-from-fits-seated-requires t c κs =
+place-from-returns-2 t c =
     let s = c .before .before .before .before .before .before .before .before .before .before .before in
     let a = s .args in
     let q = take (a .k) (a .seats .now) in
     let l = c .before .before .before .before .loop in
-    let w = s .pre .1 .0 in
-    (w .problem, (omega (arith, l .inv .2, w .problem .individuals-few), omega (arith, l .inv .0, l .inv .2, s .pre .1 .1 .1), omega (arith, c .before .before .before .loop-test .taken, w .problem .candidates-few), seated-same (a .seats .now) (l .seats) (a .k) (l .inv .1) (s .pre .1 .1 .2)))
+    (l .inv .1, placed-false false (take (a .individuals - a .k) (drop (a .k) (l .seats))) refl ∙ turn-none (a .steps) (a .net .now) (a .ends .now) (a .rows .now) (a .table .now) (a .count) (a .individuals) (a .k) q (walkOf (a .steps) (a .net .now) (a .ends .now) (a .rows .now) (a .table .now) (a .count) (a .individuals - a .k) q) (l .next) (l .inv .3) (l .seats) (omega (arith, l .inv .0, l .inv .2, s .pre .1 .1 .1)) (l .inv .1) (c .before .next-fit .result) (c .before .next-fit .ensures) (c .if2 .taken))
 
-place-from-loop-less-2 : (t : ℕ) → place-from-lts.Need-loop-less-2 (
-  leap-reads.Asked,
-  leap-reads.Learnt,
-  fits-seated-reads.Asked,
-  fits-seated-reads.Learnt,
+place-from-add-next : (t : ℕ) → place-from-lts.Need-add-next (
+  next-fit-reads.Asked,
+  next-fit-reads.Learnt,
   place-from-below t,
   place-from.Post,
 ) (place-from-at t) place-from.Post place-from-Inv-loop place-from-μ-loop
-place-from-loop-less-2 t c = omega (arith, c .before .before .before .before .before .loop-test .taken)
-
-place-from-loop-again-2 : (t : ℕ) → place-from-lts.Need-loop-again-2 (
-  leap-reads.Asked,
-  leap-reads.Learnt,
-  fits-seated-reads.Asked,
-  fits-seated-reads.Learnt,
-  place-from-below t,
-  place-from.Post,
-) (place-from-at t) place-from.Post place-from-Inv-loop place-from-μ-loop
-place-from-loop-again-2 t c =
-    let s = c .before .before .before .before .before .before .before .before .before .before .before .before .before in
-    let a = s .args in
-    let q = take (a .k) (a .seats .now) in
-    let l = c .before .before .before .before .before .before .loop in
-    let w = s .pre .1 .0 in
-    (l .inv .0, l .inv .1, l .inv .2, turn-unfit (a .steps) (a .net .now) (a .ends .now) (a .rows .now) (a .table .now) (a .count) (a .individuals) (a .k) q (walkOf (a .steps) (a .net .now) (a .ends .now) (a .rows .now) (a .table .now) (a .count) (a .individuals - a .k) q) (l .next) (l .inv .3) (l .seats) (omega (arith, l .inv .0, l .inv .2, s .pre .1 .1 .1)) (l .inv .1) (c .before .before .before .before .before .loop-test .taken) (told-no _ (c .before .fits-seated .ensures) (c .if3 .taken)))
+place-from-add-next t c = omega (arith, c .if2 .left, c .before .before .before .before .before .before .before .before .before .before .before .pre .1 .0 .problem .candidates-few)
 
 place-from-cast-seats : (t : ℕ) → place-from-lts.Need-cast-seats (
-  leap-reads.Asked,
-  leap-reads.Learnt,
-  fits-seated-reads.Asked,
-  fits-seated-reads.Learnt,
+  next-fit-reads.Asked,
+  next-fit-reads.Learnt,
   place-from-below t,
   place-from.Post,
 ) (place-from-at t) place-from.Post place-from-Inv-loop place-from-μ-loop
-place-from-cast-seats t c =
-    let s = c .before .before .before .before .before .before .before .before .before .before .before .before .before in
-    let a = s .args in
-    let q = take (a .k) (a .seats .now) in
-    let l = c .before .before .before .before .before .before .loop in
-    let w = s .pre .1 .0 in
-    omega (arith, c .before .before .before .before .before .loop-test .taken, w .problem .candidates-few)
+place-from-cast-seats t c = omega (arith, c .if2 .left, c .before .before .before .before .before .before .before .before .before .before .before .pre .1 .0 .problem .candidates-few)
 
 place-from-mul-seats : (t : ℕ) → place-from-lts.Need-mul-seats (
-  leap-reads.Asked,
-  leap-reads.Learnt,
-  fits-seated-reads.Asked,
-  fits-seated-reads.Learnt,
+  next-fit-reads.Asked,
+  next-fit-reads.Learnt,
   place-from-below t,
   place-from.Post,
 ) (place-from-at t) place-from.Post place-from-Inv-loop place-from-μ-loop
 place-from-mul-seats t c = search needs
 
 place-from-slice-write-seats : (t : ℕ) → place-from-lts.Need-slice-write-seats (
-  leap-reads.Asked,
-  leap-reads.Learnt,
-  fits-seated-reads.Asked,
-  fits-seated-reads.Learnt,
+  next-fit-reads.Asked,
+  next-fit-reads.Learnt,
   place-from-below t,
   place-from.Post,
 ) (place-from-at t) place-from.Post place-from-Inv-loop place-from-μ-loop
 place-from-slice-write-seats t c =
-    let s = c .before .before .before .before .before .before .before .before .before .before .before .before .before in
+    let s = c .before .before .before .before .before .before .before .before .before .before .before in
     let a = s .args in
     let q = take (a .k) (a .seats .now) in
-    let l = c .before .before .before .before .before .before .loop in
-    let w = s .pre .1 .0 in
+    let l = c .before .before .before .before .loop in
     omega (arith, l .inv .0, l .inv .2, s .pre .1 .1 .1)
 
 place-from-add-place-from : (t : ℕ) → place-from-lts.Need-add-place-from (
-  leap-reads.Asked,
-  leap-reads.Learnt,
-  fits-seated-reads.Asked,
-  fits-seated-reads.Learnt,
+  next-fit-reads.Asked,
+  next-fit-reads.Learnt,
   place-from-below t,
   place-from.Post,
 ) (place-from-at t) place-from.Post place-from-Inv-loop place-from-μ-loop
 place-from-add-place-from t c = search needs
 
 place-from-place-from-requires : (t : ℕ) → place-from-lts.Need-place-from-requires (
-  leap-reads.Asked,
-  leap-reads.Learnt,
-  fits-seated-reads.Asked,
-  fits-seated-reads.Learnt,
+  next-fit-reads.Asked,
+  next-fit-reads.Learnt,
   place-from-below t,
   place-from.Post,
 ) (place-from-at t) place-from.Post place-from-Inv-loop place-from-μ-loop
 place-from-place-from-requires t c κs =
-    let s = c .before .before .before .before .before .before .before .before .before .before .before .before .before .before in
+    let s = c .before .before .before .before .before .before .before .before .before .before .before .before in
     let a = s .args in
     let q = take (a .k) (a .seats .now) in
-    let l = c .before .before .before .before .before .before .before .loop in
-    let w = s .pre .1 .0 in
-    (omega (arith, s .pre .0, l .inv .2), (w, (omega (arith, l .inv .2), omega (arith, length-set (l .seats) (a .k) (l .next), l .inv .0, s .pre .1 .1 .1), seated-next (l .seats) (a .k) (l .next) (omega (arith, l .inv .0, l .inv .2, s .pre .1 .1 .1)) (omega (arith, c .before .before .before .before .before .before .loop-test .taken, w .problem .candidates-few)) (seated-same (a .seats .now) (l .seats) (a .k) (l .inv .1) (s .pre .1 .1 .2)))))
-
-place-from-same-length : (t : ℕ) → place-from-lts.Need-same-length (
-  leap-reads.Asked,
-  leap-reads.Learnt,
-  fits-seated-reads.Asked,
-  fits-seated-reads.Learnt,
-  place-from-below t,
-  place-from.Post,
-) (place-from-at t) place-from.Post place-from-Inv-loop place-from-μ-loop
-place-from-same-length t c =
-    let s = c .before .before .before .before .before .before .before .before .before .before .before .before .before .before .before .before .before .before in
-    let a = s .args in
-    let q = take (a .k) (a .seats .now) in
-    let l = c .before .before .before .before .before .before .before .before .before .before .before .loop in
-    let w = s .pre .1 .0 in
-    let p = c .before .before .before .place-from in
-    p .kept .1 .1 .1 .1 .1 .1 .1 .1 .0 ∙ length-set (l .seats) (a .k) (l .next) ∙ l .inv .0
-
-place-from-returns-2 : (t : ℕ) → place-from-lts.Need-returns-2 (
-  leap-reads.Asked,
-  leap-reads.Learnt,
-  fits-seated-reads.Asked,
-  fits-seated-reads.Learnt,
-  place-from-below t,
-  place-from.Post,
-) (place-from-at t) place-from.Post place-from-Inv-loop place-from-μ-loop
-place-from-returns-2 t c =
-    let s = c .before .before .before .before .before .before .before .before .before .before .before .before .before .before .before .before .before .before in
-    let a = s .args in
-    let q = take (a .k) (a .seats .now) in
-    let l = c .before .before .before .before .before .before .before .before .before .before .before .loop in
-    let w = s .pre .1 .0 in
-    let p = c .before .before .before .place-from in
-    let u = p .last .1 .1 .1 .1 .1 .1 .1 .1 .0 in
-    (seats-kept (l .seats) u (a .k) (l .next) (p .ensures .0) ∙ l .inv .1, placed-true true (take (a .individuals - a .k) (drop (a .k) u)) refl ∙ turn-found (a .steps) (a .net .now) (a .ends .now) (a .rows .now) (a .table .now) (a .count) (a .individuals) (a .k) q (walkOf (a .steps) (a .net .now) (a .ends .now) (a .rows .now) (a .table .now) (a .count) (a .individuals - a .k) q) (l .next) (l .inv .3) (l .seats) (omega (arith, l .inv .0, l .inv .2, s .pre .1 .1 .1)) (l .inv .1) (c .before .before .before .before .before .before .before .before .before .before .loop-test .taken) (c .before .before .before .before .before .before .before .before .before .leap .ensures .0 (omega (arith, c .before .before .before .before .before .before .before .before .if2 .left))) (told-yes _ (c .before .before .before .before .before .before .fits-seated .ensures) (c .before .before .before .before .before .if3 .left)) u (p .kept .1 .1 .1 .1 .1 .1 .1 .1 .0 ∙ length-set (l .seats) (a .k) (l .next)) (p .ensures .0) (l .inv .2) (sym (placed-true (p .result) _ (c .if4 .taken)) ∙ p .ensures .1))
-
-place-from-loop-less-3 : (t : ℕ) → place-from-lts.Need-loop-less-3 (
-  leap-reads.Asked,
-  leap-reads.Learnt,
-  fits-seated-reads.Asked,
-  fits-seated-reads.Learnt,
-  place-from-below t,
-  place-from.Post,
-) (place-from-at t) place-from.Post place-from-Inv-loop place-from-μ-loop
-place-from-loop-less-3 t c = omega (arith, c .before .before .before .before .before .before .before .before .before .before .loop-test .taken)
-
-place-from-loop-again-3 : (t : ℕ) → place-from-lts.Need-loop-again-3 (
-  leap-reads.Asked,
-  leap-reads.Learnt,
-  fits-seated-reads.Asked,
-  fits-seated-reads.Learnt,
-  place-from-below t,
-  place-from.Post,
-) (place-from-at t) place-from.Post place-from-Inv-loop place-from-μ-loop
-place-from-loop-again-3 t c =
-    let s = c .before .before .before .before .before .before .before .before .before .before .before .before .before .before .before .before .before .before in
-    let a = s .args in
-    let q = take (a .k) (a .seats .now) in
-    let l = c .before .before .before .before .before .before .before .before .before .before .before .loop in
-    let w = s .pre .1 .0 in
-    let p = c .before .before .before .place-from in
-    let u = p .last .1 .1 .1 .1 .1 .1 .1 .1 .0 in
-    (p .kept .1 .1 .1 .1 .1 .1 .1 .1 .0 ∙ length-set (l .seats) (a .k) (l .next) ∙ l .inv .0, seats-kept (l .seats) u (a .k) (l .next) (p .ensures .0) ∙ l .inv .1, l .inv .2, turn-back (a .steps) (a .net .now) (a .ends .now) (a .rows .now) (a .table .now) (a .count) (a .individuals) (a .k) q (walkOf (a .steps) (a .net .now) (a .ends .now) (a .rows .now) (a .table .now) (a .count) (a .individuals - a .k) q) (l .next) (l .inv .3) (l .seats) (omega (arith, l .inv .0, l .inv .2, s .pre .1 .1 .1)) (l .inv .1) (c .before .before .before .before .before .before .before .before .before .before .loop-test .taken) (c .before .before .before .before .before .before .before .before .before .leap .ensures .0 (omega (arith, c .before .before .before .before .before .before .before .before .if2 .left))) (told-yes _ (c .before .before .before .before .before .before .fits-seated .ensures) (c .before .before .before .before .before .if3 .left)) (sym (placed-false (p .result) _ (c .if4 .left)) ∙ p .ensures .1))
+    let l = c .before .before .before .before .before .loop in
+    (omega (arith, s .pre .0, l .inv .2), (s .pre .1 .0, (omega (arith, l .inv .2), omega (arith, length-set (l .seats) (a .k) (c .before .before .next-fit .result), l .inv .0, s .pre .1 .1 .1), seated-next (l .seats) (a .k) (c .before .before .next-fit .result) (omega (arith, l .inv .0, l .inv .2, s .pre .1 .1 .1)) (omega (arith, c .before .if2 .left, s .pre .1 .0 .problem .candidates-few)) (seated-same (a .seats .now) (l .seats) (a .k) (l .inv .1) (s .pre .1 .1 .2)))))
 
 place-from-same-length-2 : (t : ℕ) → place-from-lts.Need-same-length-2 (
-  leap-reads.Asked,
-  leap-reads.Learnt,
-  fits-seated-reads.Asked,
-  fits-seated-reads.Learnt,
+  next-fit-reads.Asked,
+  next-fit-reads.Learnt,
   place-from-below t,
   place-from.Post,
 ) (place-from-at t) place-from.Post place-from-Inv-loop place-from-μ-loop
-place-from-same-length-2 t c = c .before .loop .inv .0
+place-from-same-length-2 t c =
+    let s = c .before .before .before .before .before .before .before .before .before .before .before .before .before .before .before .before in
+    let a = s .args in
+    let q = take (a .k) (a .seats .now) in
+    let l = c .before .before .before .before .before .before .before .before .before .loop in
+    let p = c .before .before .before .place-from in
+    p .kept .1 .1 .1 .1 .1 .1 .1 .1 .0 ∙ length-set (l .seats) (a .k) (c .before .before .before .before .before .before .next-fit .result) ∙ l .inv .0
 
 place-from-returns-3 : (t : ℕ) → place-from-lts.Need-returns-3 (
-  leap-reads.Asked,
-  leap-reads.Learnt,
-  fits-seated-reads.Asked,
-  fits-seated-reads.Learnt,
+  next-fit-reads.Asked,
+  next-fit-reads.Learnt,
   place-from-below t,
   place-from.Post,
 ) (place-from-at t) place-from.Post place-from-Inv-loop place-from-μ-loop
 place-from-returns-3 t c =
+    let s = c .before .before .before .before .before .before .before .before .before .before .before .before .before .before .before .before in
+    let a = s .args in
+    let q = take (a .k) (a .seats .now) in
+    let l = c .before .before .before .before .before .before .before .before .before .loop in
+    let p = c .before .before .before .place-from in
+    let u = p .last .1 .1 .1 .1 .1 .1 .1 .1 .0 in
+    (seats-kept (l .seats) u (a .k) (c .before .before .before .before .before .before .next-fit .result) (p .ensures .0) ∙ l .inv .1, placed-true true (take (a .individuals - a .k) (drop (a .k) u)) refl ∙ turn-found (a .steps) (a .net .now) (a .ends .now) (a .rows .now) (a .table .now) (a .count) (a .individuals) (a .k) q (walkOf (a .steps) (a .net .now) (a .ends .now) (a .rows .now) (a .table .now) (a .count) (a .individuals - a .k) q) (l .next) (l .inv .3) (l .seats) (omega (arith, l .inv .0, l .inv .2, s .pre .1 .1 .1)) (l .inv .1) (c .before .before .before .before .before .before .next-fit .result) (c .before .before .before .before .before .before .next-fit .ensures) (omega (arith, c .before .before .before .before .before .if2 .left)) u (p .kept .1 .1 .1 .1 .1 .1 .1 .1 .0 ∙ length-set (l .seats) (a .k) (c .before .before .before .before .before .before .next-fit .result)) (p .ensures .0) (l .inv .2) (sym (placed-true (p .result) _ (c .if3 .taken)) ∙ p .ensures .1))
+
+place-from-loop-less : (t : ℕ) → place-from-lts.Need-loop-less (
+  next-fit-reads.Asked,
+  next-fit-reads.Learnt,
+  place-from-below t,
+  place-from.Post,
+) (place-from-at t) place-from.Post place-from-Inv-loop place-from-μ-loop
+place-from-loop-less t c = omega (arith, c .before .before .before .before .before .before .before .before .loop-test .taken, c .before .before .before .before .before .before .next-fit .ensures .from-start)
+
+place-from-loop-again : (t : ℕ) → place-from-lts.Need-loop-again (
+  next-fit-reads.Asked,
+  next-fit-reads.Learnt,
+  place-from-below t,
+  place-from.Post,
+) (place-from-at t) place-from.Post place-from-Inv-loop place-from-μ-loop
+place-from-loop-again t c =
+    let s = c .before .before .before .before .before .before .before .before .before .before .before .before .before .before .before .before in
+    let a = s .args in
+    let q = take (a .k) (a .seats .now) in
+    let l = c .before .before .before .before .before .before .before .before .before .loop in
+    let p = c .before .before .before .place-from in
+    let u = p .last .1 .1 .1 .1 .1 .1 .1 .1 .0 in
+    (p .kept .1 .1 .1 .1 .1 .1 .1 .1 .0 ∙ length-set (l .seats) (a .k) (c .before .before .before .before .before .before .next-fit .result) ∙ l .inv .0, seats-kept (l .seats) u (a .k) (c .before .before .before .before .before .before .next-fit .result) (p .ensures .0) ∙ l .inv .1, l .inv .2, turn-back (a .steps) (a .net .now) (a .ends .now) (a .rows .now) (a .table .now) (a .count) (a .individuals) (a .k) q (walkOf (a .steps) (a .net .now) (a .ends .now) (a .rows .now) (a .table .now) (a .count) (a .individuals - a .k) q) (l .next) (l .inv .3) (l .seats) (omega (arith, l .inv .0, l .inv .2, s .pre .1 .1 .1)) (l .inv .1) (c .before .before .before .before .before .before .next-fit .result) (c .before .before .before .before .before .before .next-fit .ensures) (omega (arith, c .before .before .before .before .before .if2 .left)) (sym (placed-false (p .result) _ (c .if3 .left)) ∙ p .ensures .1))
+
+place-from-same-length-3 : (t : ℕ) → place-from-lts.Need-same-length-3 (
+  next-fit-reads.Asked,
+  next-fit-reads.Learnt,
+  place-from-below t,
+  place-from.Post,
+) (place-from-at t) place-from.Post place-from-Inv-loop place-from-μ-loop
+place-from-same-length-3 t c = c .before .loop .inv .0
+
+place-from-returns-4 : (t : ℕ) → place-from-lts.Need-returns-4 (
+  next-fit-reads.Asked,
+  next-fit-reads.Learnt,
+  place-from-below t,
+  place-from.Post,
+) (place-from-at t) place-from.Post place-from-Inv-loop place-from-μ-loop
+place-from-returns-4 t c =
     let s = c .before .before .before .before .before .before .before .before in
     let a = s .args in
     let q = take (a .k) (a .seats .now) in
@@ -337,10 +230,8 @@ place-from-returns-3 t c =
 
 pub +place-from-spec : {M : Type 1} → statement M
 +place-from-spec = close μ-place-from λ t. place-from-lts.spec (
-  leap-reads.Asked,
-  leap-reads.Learnt,
-  fits-seated-reads.Asked,
-  fits-seated-reads.Learnt,
+  next-fit-reads.Asked,
+  next-fit-reads.Learnt,
   place-from-below t,
   place-from.Post,
 )
@@ -350,22 +241,18 @@ pub +place-from-spec : {M : Type 1} → statement M
     place-from-μ-loop
     (place-from-returns t)
     (place-from-loop-holds t)
-    (place-from-leap-requires t)
+    (place-from-next-fit-requires t)
+    (place-from-same-length t)
+    (place-from-returns-2 t)
     (place-from-add-next t)
-    (place-from-loop-less t)
-    (place-from-loop-again t)
-    (place-from-add-next-2 t)
-    (place-from-fits-seated-requires t)
-    (place-from-loop-less-2 t)
-    (place-from-loop-again-2 t)
     (place-from-cast-seats t)
     (place-from-mul-seats t)
     (place-from-slice-write-seats t)
     (place-from-add-place-from t)
     (place-from-place-from-requires t)
-    (place-from-same-length t)
-    (place-from-returns-2 t)
-    (place-from-loop-less-3 t)
-    (place-from-loop-again-3 t)
     (place-from-same-length-2 t)
     (place-from-returns-3 t)
+    (place-from-loop-less t)
+    (place-from-loop-again t)
+    (place-from-same-length-3 t)
+    (place-from-returns-4 t)

@@ -2,10 +2,8 @@
 -- Assumes nothing.
 use native.Mathlib.Omega.{arith}
 use borrow.Author.Needs.{needs}
+use Rattle.placer.proofs.Placing.{Prepared, individuals-at-most, filtered-graded, found-placement, vain-placed}
 use Rattle.sections.specs.Terms.{termCount}
-use Rattle.placer.proofs.Placing.{individuals-at-most, reduced-serves, found-placement, vain-placed}
-use Rattle.placer.proofs.Rows.{row-on-chain}
-use Rattle.placer.specs.Serving.{Prepared, Serves}
 use Rattle.domains.specs.Consistent.{Problem}
 use Rattle.placer.proofs.place_in.Statement.{statement}
 use Rattle.placer.proofs.place_in.Tie as tie
@@ -16,8 +14,8 @@ connect-requires c κs = search needs
 fill-rows-requires : tie.Need-fill-rows-requires
 fill-rows-requires c κs = search needs
 
-fill-domains-requires : tie.Need-fill-domains-requires
-fill-domains-requires c κs =
+fill-table-requires : tie.Need-fill-table-requires
+fill-table-requires c κs =
     let s = c .before .before .before .before .before .before .before .before .before .before .before .before .before .before .before .before .before .before .before .before .before .before .before .before in
     let a = s .args in
     let z = s .pre .1 .1 .1 .1 .0 in
@@ -36,15 +34,14 @@ fill-domains-requires c κs =
       individuals-few = omega (arith, z .2, individuals-at-most (a .steps) (a .terms .now) (a .memberships .now) (a .links .now) (s .pre .1 .0) (s .pre .1 .1 .0));
       rows-long = omega (arith, r .kept .1 .1 .1 .1 .0, y .3);
     } in
-    (s .pre .1 .0, (problem, (λ c l m. row-on-chain (a .steps) (a .terms .now) rows (s .pre .0) c (r .ensures c l m), (z .1, y .4, y .5))))
+    (s .pre .1 .0, (problem, (z .1, y .4, y .5)))
 
 in-vain-requires : tie.Need-in-vain-requires
 in-vain-requires c κs =
     let s = c .before .before .before .before .before .before .before .before .before .before .before .before .before .before .before .before .before .before .before .before .before .before .before .before .before .before .before .before in
     let a = s .args in
     let z = s .pre .1 .1 .1 .1 .0 in
-    let y = s .pre .1 .1 .1 .1 .1 in
-    (z .0, omega (arith, z .2, individuals-at-most (a .steps) (a .terms .now) (a .memberships .now) (a .links .now) (s .pre .1 .0) (s .pre .1 .1 .0)), omega (arith, c .before .before .before .fill-domains .kept .1 .1 .1 .1 .1 .1 .1 .1 .1 .0, y .4))
+    (z .0, omega (arith, z .2, individuals-at-most (a .steps) (a .terms .now) (a .memberships .now) (a .links .now) (s .pre .1 .0) (s .pre .1 .1 .0)), omega (arith, c .before .before .before .fill-table .kept .1 .1 .1 .1 .1 .1 .1 .1 .1 .0, s .pre .1 .1 .1 .1 .1 .4))
 
 same-length : tie.Need-same-length
 same-length c = search needs
@@ -78,13 +75,12 @@ returns c =
       network = k .ensures;
       rowed = r .ensures;
     } in
-    let f = c .before .before .before .before .before .fill-domains in
+    let f = c .before .before .before .before .before .fill-table in
     let table = f .last .1 .1 .1 .1 .1 .1 .1 .1 .1 .0 in
-    let serves : Serves (a .steps) (a .terms .now) (a .memberships .now) (a .links .now) (a .marks .now) (a .individuals) (a .count) table = reduced-serves (a .steps) (a .terms .now) (a .memberships .now) (a .links .now) (a .marks .now) (a .individuals) (a .count) net ends rows prepared table (f .ensures) in
-    vain-placed (a .steps) (a .terms .now) (a .memberships .now) (a .links .now) (a .marks .now) (a .individuals) (a .count) net ends rows prepared table serves _ (c .before .in-vain .ensures .0 (c .if1 .taken))
+    vain-placed (a .steps) (a .terms .now) (a .memberships .now) (a .links .now) (a .marks .now) (a .individuals) (a .count) net ends rows prepared table (f .ensures) _ (c .before .in-vain .ensures .0 (c .if1 .taken))
 
-place-from-requires : tie.Need-place-from-requires
-place-from-requires c κs =
+place-thinned-requires : tie.Need-place-thinned-requires
+place-thinned-requires c κs =
     let s = c .before .before .before .before .before .before .before .before .before .before .before .before .before .before .before .before .before .before .before .before .before .before .before .before .before .before .before .before .before .before .before .before .before .before .before in
     let a = s .args in
     let z = s .pre .1 .1 .1 .1 .0 in
@@ -103,8 +99,18 @@ place-from-requires c κs =
       individuals-few = omega (arith, z .2, individuals-at-most (a .steps) (a .terms .now) (a .memberships .now) (a .links .now) (s .pre .1 .0) (s .pre .1 .1 .0));
       rows-long = omega (arith, r .kept .1 .1 .1 .1 .0, y .3);
     } in
-    let f = c .before .before .before .before .before .before .before .before .before .before .fill-domains in
-    (record { problem = problem; table-long = omega (arith, f .kept .1 .1 .1 .1 .1 .1 .1 .1 .1 .0, y .4); gaps = f .ensures .gaps }, (omega arith, z .3, λ i l. absurd (omega arith)))
+    let prepared : Prepared (a .steps) (a .terms .now) (a .memberships .now) (a .links .now) (a .marks .now) (a .individuals) (a .count) net ends rows = record {
+      terms-right = s .pre .0;
+      memberships-right = s .pre .1 .0;
+      links-right = s .pre .1 .1 .0;
+      candidates-few = z .0;
+      individuals-are = z .2;
+      network = k .ensures;
+      rowed = r .ensures;
+    } in
+    let f = c .before .before .before .before .before .before .before .before .before .before .fill-table in
+    let table = f .last .1 .1 .1 .1 .1 .1 .1 .1 .1 .0 in
+    (problem, (omega (arith, f .kept .1 .1 .1 .1 .1 .1 .1 .1 .1 .0, y .4), z .3, filtered-graded (a .steps) (a .terms .now) (a .memberships .now) (a .links .now) (a .marks .now) (a .individuals) (a .count) net ends rows prepared table (f .ensures)))
 
 same-length-5 : tie.Need-same-length-5
 same-length-5 c = search needs
@@ -123,12 +129,12 @@ same-length-9 c = search needs
 
 returns-2 : tie.Need-returns-2
 returns-2 c =
-    let s = c .before .before .before .before .before .before .before .before .before .before .before .before .before .before .before .before .before .before .before .before .before .before .before .before .before .before .before .before .before .before .before .before .before .before .before .before .before .before in
+    let s = c .before .before .before .before .before .before .before .before .before .before .before .before .before .before .before .before .before .before .before .before .before .before .before .before .before .before .before .before .before .before .before .before .before .before .before .before .before .before .before .before in
     let a = s .args in
     let z = s .pre .1 .1 .1 .1 .0 in
     let y = s .pre .1 .1 .1 .1 .1 in
-    let k = c .before .before .before .before .before .before .before .before .before .before .before .before .before .before .before .before .before .before .before .before .before .before .before .before .before .before .connect in
-    let r = c .before .before .before .before .before .before .before .before .before .before .before .before .before .before .before .before .before .before .before .before .fill-rows in
+    let k = c .before .before .before .before .before .before .before .before .before .before .before .before .before .before .before .before .before .before .before .before .before .before .before .before .before .before .before .before .connect in
+    let r = c .before .before .before .before .before .before .before .before .before .before .before .before .before .before .before .before .before .before .before .before .before .before .fill-rows in
     let net = k .last .1 .1 .1 .0 in
     let ends = k .last .1 .1 .1 .1 .0 in
     let rows = r .last .1 .1 .1 .1 .0 in
@@ -141,11 +147,9 @@ returns-2 c =
       network = k .ensures;
       rowed = r .ensures;
     } in
-    let f = c .before .before .before .before .before .before .before .before .before .before .before .before .before .fill-domains in
+    let f = c .before .before .before .before .before .before .before .before .before .before .before .before .before .before .before .fill-table in
     let table = f .last .1 .1 .1 .1 .1 .1 .1 .1 .1 .0 in
-    let serves : Serves (a .steps) (a .terms .now) (a .memberships .now) (a .links .now) (a .marks .now) (a .individuals) (a .count) table = reduced-serves (a .steps) (a .terms .now) (a .memberships .now) (a .links .now) (a .marks .now) (a .individuals) (a .count) net ends rows prepared table (f .ensures) in
-    let p = c .before .before .place-from in
-    found-placement (a .steps) (a .terms .now) (a .memberships .now) (a .links .now) (a .marks .now) (a .individuals) (a .count) net ends rows prepared table serves (p .result) (a .seats .now) (p .last .1 .1 .1 .1 .1 .1 .1 .1 .0) (p .ensures .1)
+    found-placement (a .steps) (a .terms .now) (a .memberships .now) (a .links .now) (a .marks .now) (a .individuals) (a .count) net ends rows prepared table (f .ensures) (c .before .before .before .before .place-thinned .result) _ (c .before .before .before .before .place-thinned .ensures)
 
 pub place-in-spec : {M : Type 1} → statement M
 place-in-spec =
@@ -153,14 +157,14 @@ place-in-spec =
     (tie.spec
     connect-requires
     fill-rows-requires
-    fill-domains-requires
+    fill-table-requires
     in-vain-requires
     same-length
     same-length-2
     same-length-3
     same-length-4
     returns
-    place-from-requires
+    place-thinned-requires
     same-length-5
     same-length-6
     same-length-7
