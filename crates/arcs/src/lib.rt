@@ -4,7 +4,7 @@ ghost use Prim.Native.Nat.{ℕ, _+_, _*_, _<_, _≤_};
 ghost use lib.ListN.{length};
 ghost use Rattle.chain.specs.Decisions.{Tells};
 ghost use Rattle.network.specs.Constraints.{constraintCount, Met, AllMet, Right, AllRight};
-ghost use Rattle.domains.specs.Gaps.{Gaps};
+ghost use Rattle.domains.specs.Gaps.{GapsFrom, Gaps};
 ghost use Rattle.domains.specs.Consistent.{FitsBy, Problem, Graded};
 ghost use Rattle.arcs.specs.Boxes.{Inside, Within, boundCount, boundAt, Asks, Narrowed};
 ghost use Rattle.arcs.specs.Arcs.{Sought, Tried, SupportedBy, SupportedTo, ArcConsistent, Pruned, Revised, RevisedBy};
@@ -188,18 +188,10 @@ fn inside(bounds: &[u8], row: &[u8]) -> bool
 
 // ---- support
 
-// The first candidate from `start` on and below `to` that individual `i` may have and whose row lies in the box; or a number that is not below `to`.
-fn seek(
-    bounds: &[u8],
-    table: &[u8],
-    rows: &[u8],
-    individuals: usize,
-    i: usize,
-    start: usize,
-    to: usize,
-    count: usize,
-) -> usize
-    requires { ⌜ (i < individuals) × (individuals ≤ 8) × (to ≤ count) × (count ≤ 16384) × (131072 ≤ length (now table)) × (1048576 ≤ length (now rows)) × Gaps (now table) individuals count ⌝ }
+// The first candidate from `start` on and below `to` that individual `i` may have and whose row lies in the box; or a number that is not below
+// `to`.
+fn seek(bounds: &[u8], table: &[u8], rows: &[u8], i: usize, start: usize, to: usize) -> usize
+    requires { ⌜ (i < 8) × (to ≤ 16384) × (131072 ≤ length (now table)) × (1048576 ≤ length (now rows)) × GapsFrom (now table) i 0 to ⌝ }
     requires { ⌜ ((x : ℕ) → x < boundCount (now bounds) → boundAt (now bounds) x .term < 64) ⌝ }
     ensures { λ r. ⌜ Sought (now (bounds .entry)) (now (table .entry)) (now (rows .entry)) i start to r ⌝ }
 {
@@ -223,20 +215,19 @@ fn seek_around(
     bounds: &[u8],
     table: &[u8],
     rows: &[u8],
-    individuals: usize,
     i: usize,
     hint: usize,
     count: usize,
 ) -> usize
-    requires { ⌜ (i < individuals) × (individuals ≤ 8) × (hint ≤ count) × (count ≤ 16384) × (131072 ≤ length (now table)) × (1048576 ≤ length (now rows)) × Gaps (now table) individuals count ⌝ }
+    requires { ⌜ (i < 8) × (hint ≤ count) × (count ≤ 16384) × (131072 ≤ length (now table)) × (1048576 ≤ length (now rows)) × GapsFrom (now table) i 0 count ⌝ }
     requires { ⌜ ((x : ℕ) → x < boundCount (now bounds) → boundAt (now bounds) x .term < 64) ⌝ }
     ensures { λ r. ⌜ Sought (now (bounds .entry)) (now (table .entry)) (now (rows .entry)) i 0 count r ⌝ }
 {
-    let d = seek(bounds, table, rows, individuals, i, hint, count, count);
+    let d = seek(bounds, table, rows, i, hint, count);
     if d < count {
         return d;
     }
-    let e = seek(bounds, table, rows, individuals, i, 0, hint, count);
+    let e = seek(bounds, table, rows, i, 0, hint);
     if e < hint {
         return e;
     }
@@ -265,7 +256,7 @@ fn support(
     ensures { λ r. ⌜ Tried steps (now (forth .entry)) (now (back .entry)) count (now (rows .entry)) (now (table .entry)) i c r ⌝ }
 {
     let m = make_box(steps, forth, back, terms, row_at(rows, c), bounds);
-    seek_around(&bounds[..3 * m], table, rows, individuals, i, hint, count)
+    seek_around(&bounds[..3 * m], table, rows, i, hint, count)
 }
 
 // ---- revision

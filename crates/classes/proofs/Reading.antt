@@ -117,9 +117,9 @@ pub same-fits : (N m : ℕ) (net ends : List ℕ) (count n : ℕ) (rows : List �
     → (v : List ℕ) → Fits N net ends j i a v → Fits N net ends j i b v
 same-fits N m net ends count n rows p j i lj li apart seen read a b same v f = (
   met-source N (between net ends j i) a b v
-      (λ y l. same (constraintAt (between net ends j i) y .own) (omega (arith, p .terms-few, p .right (8 * j + i) (omega arith) y l .own-lt))
+      (λ y l. same (constraintAt (between net ends j i) y .own) (omega (arith, p .wired .few, p .wired .right (8 * j + i) (omega arith) y l .own-lt))
       (read i li apart .0 y l)) (f .0),
   met-target N (between net ends i j) a b v
-      (λ y l. same (constraintAt (between net ends i j) y .child) (omega (arith, p .terms-few, p .right (8 * i + j) (omega arith) y l .child-lt))
+      (λ y l. same (constraintAt (between net ends i j) y .child) (omega (arith, p .wired .few, p .wired .right (8 * i + j) (omega arith) y l .child-lt))
       (read i li apart .1 y l)) (f .1),
 )

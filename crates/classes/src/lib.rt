@@ -4,7 +4,7 @@ ghost use Prim.Native.Nat.{ℕ, _+_, _*_, _<_, _≤_};
 ghost use lib.ListN.{length, getD};
 ghost use Rattle.chain.specs.Decisions.{Tells};
 ghost use Rattle.network.specs.Constraints.{constraintCount, AllRight};
-ghost use Rattle.network.specs.Network.{constraintsOf, Laid};
+ghost use Rattle.network.specs.Network.{Wired};
 ghost use Rattle.domains.specs.Consistent.{Problem};
 ghost use Rattle.classes.specs.Reads.{readAt, ListRead, Read, More, Listed};
 ghost use Rattle.classes.specs.Classes.{Alike, Matched, ThinnedAt, Thinned};
@@ -43,8 +43,8 @@ fn note_list(steps: u8, s: &[u8], end: u8, terms: usize, seen: &mut [u8])
 
 // Notes what those between individual `j` and the others read of `j`.
 fn note_all(steps: u8, net: &[u8], ends: &[u16], j: usize, terms: usize, seen: &mut [u8])
-    requires { ⌜ (j < 8) × (65 ≤ length (now ends)) × Laid (now net) (now ends) × (terms ≤ length (now seen)) ⌝ }
-    requires { ⌜ ((x : ℕ) → x < 64 → AllRight steps terms (constraintsOf (now net) (now ends) x)) ⌝ }
+    requires { ⌜ Wired steps terms (now net) (now ends) ⌝ }
+    requires { ⌜ (j < 8) × (terms ≤ length (now seen)) ⌝ }
     ensures { λ _. ⌜ Read (now (net .entry)) (now (ends .entry)) j 8 (now (seen .exit)) ⌝ }
 {
     let mut next = 0;

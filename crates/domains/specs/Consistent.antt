@@ -6,8 +6,8 @@ use mathlib.Core.List.{List}
 use Prim.Native.Nat.{ℕ, _≤_, _<_}
 use lib.ListN.{length}
 use Rattle.grades.specs.Rows.{rowAt}
-use Rattle.network.specs.Constraints.{AllMet, AllRight, OnChain}
-use Rattle.network.specs.Network.{constraintsOf, between, Laid}
+use Rattle.network.specs.Constraints.{AllMet, OnChain}
+use Rattle.network.specs.Network.{between, Wired}
 use Rattle.domains.specs.Tables.{Allowed}
 
 -- the rows a and b meet the constraints from the one to the other, and back
@@ -28,10 +28,7 @@ module _ (N : ℕ) (net ends : List ℕ) where
 -- ---- what stays as it is throughout: a network over m terms, n individuals, candidates below count, and their rows
 
 pub record Problem (N m : ℕ) (net ends : List ℕ) (count n : ℕ) (rows : List ℕ) : Type 0 where
-  pub laid : Laid net ends
-  pub ends-long : 65 ≤ length ends
-  pub right : (x : ℕ) → x < 64 → AllRight N m (constraintsOf net ends x)
-  pub terms-few : m ≤ 64
+  pub wired : Wired N m net ends
   pub candidates-few : count ≤ 16384
   pub individuals-few : n ≤ 8
   pub rows-long : 1048576 ≤ length rows

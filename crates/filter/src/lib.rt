@@ -5,8 +5,7 @@ ghost use Prim.Native.Nat.{ℕ, _+_, _*_, _<_, _≤_};
 ghost use lib.ListN.{length, getD};
 ghost use Rattle.chain.specs.Decisions.{Tells};
 ghost use Rattle.sections.specs.Claims.{claimCount, membershipAt, MembershipsRight};
-ghost use Rattle.network.specs.Constraints.{AllRight};
-ghost use Rattle.network.specs.Network.{constraintsOf, Laid};
+ghost use Rattle.network.specs.Network.{Wired};
 ghost use Rattle.domains.specs.Consistent.{Problem};
 ghost use Rattle.filter.specs.Filter.{MembershipBy, MembershipsBy, Admits, Filtered, Column};
 use grades::row_at;
@@ -59,8 +58,8 @@ fn admitted(
     row: &[u8],
 ) -> u8
     requires { ⌜ MembershipsRight (now memberships) steps terms ⌝ }
-    requires { ⌜ ((x : ℕ) → x < 64 → AllRight steps terms (constraintsOf (now net) (now ends) x)) ⌝ }
-    requires { ⌜ (j < 8) × (65 ≤ length (now ends)) × Laid (now net) (now ends) × (terms ≤ length (now row)) ⌝ }
+    requires { ⌜ Wired steps terms (now net) (now ends) ⌝ }
+    requires { ⌜ (j < 8) × (terms ≤ length (now row)) ⌝ }
     ensures { λ r. ⌜ (r ≡ 1) ↔ Admits steps (now (memberships .entry)) (now (net .entry)) (now (ends .entry)) j (now (row .entry)) ⌝ }
 {
     if !memberships_met(memberships, j, row) {
@@ -87,8 +86,8 @@ fn allow_row(
     table: &mut [u8],
 )
     requires { ⌜ MembershipsRight (now memberships) steps terms ⌝ }
-    requires { ⌜ ((x : ℕ) → x < 64 → AllRight steps terms (constraintsOf (now net) (now ends) x)) ⌝ }
-    requires { ⌜ (individuals ≤ 8) × (65 ≤ length (now ends)) × Laid (now net) (now ends) × (terms ≤ length (now row)) × (c < 16384) × (131072 ≤ length (now table)) ⌝ }
+    requires { ⌜ Wired steps terms (now net) (now ends) ⌝ }
+    requires { ⌜ (individuals ≤ 8) × (terms ≤ length (now row)) × (c < 16384) × (131072 ≤ length (now table)) ⌝ }
     ensures { λ _. ⌜ Column steps (now (memberships .entry)) (now (net .entry)) (now (ends .entry)) (now (row .entry)) individuals c
         (now (table .entry)) (now (table .exit)) ⌝ }
 {

@@ -26,6 +26,13 @@ module _ (net ends : List ℕ) where
   abbrev pub Laid : Type 0
   Laid = (x : ℕ) → x < 64 → (getD ends x 0 ≤ getD ends (x + 1) 0) × (4 * getD ends (x + 1) 0 ≤ length net) × (getD ends (x + 1) 0 ≤ getD ends x 0 + 64)
 
+-- a network over m terms, on N steps
+pub record Wired (N m : ℕ) (net ends : List ℕ) : Type 0 where
+  pub laid : Laid net ends
+  pub long : 65 ≤ length ends
+  pub right : (x : ℕ) → x < 64 → AllRight N m (constraintsOf net ends x)
+  pub few : m ≤ 64
+
 -- ---- what they stand for, by the rows a and b of two individuals
 
 module _ (N : ℕ) (ts : List ℕ) where

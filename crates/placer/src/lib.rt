@@ -12,6 +12,7 @@ ghost use Rattle.sections.specs.Books.{bookOfSections};
 ghost use Rattle.grades.specs.Rows.{rowAt};
 ghost use Rattle.elimination.specs.Marks.{marked};
 ghost use Rattle.placement.specs.Outcome.{placementAmong};
+ghost use Rattle.network.specs.Network.{Wired};
 ghost use Rattle.domains.specs.Consistent.{Fits, Problem, Graded};
 ghost use Rattle.placer.specs.Walk.{placed};
 ghost use Rattle.placer.specs.Rows.{Rowed};
@@ -51,16 +52,14 @@ fn compatible(
     net: &[u8],
     ends: &[u16],
     terms: usize,
-    count: usize,
-    individuals: usize,
     rows: &[u8],
     j: usize,
     c: usize,
     i: usize,
     d: usize,
 ) -> bool
-    requires { ⌜ Problem steps terms (now net) (now ends) count individuals (now rows) ⌝ }
-    requires { ⌜ (j < 8) × (i < 8) × (c < 16384) × (d < 16384) ⌝ }
+    requires { ⌜ Wired steps terms (now net) (now ends) ⌝ }
+    requires { ⌜ (1048576 ≤ length (now rows)) × (j < 8) × (i < 8) × (c < 16384) × (d < 16384) ⌝ }
     ensures { λ r. ⌜ Tells r (Fits steps (now (net .entry)) (now (ends .entry)) j i (rowAt (now (rows .entry)) c) (rowAt (now (rows .entry)) d)) ⌝ }
 {
     let first = row_at(rows, c);
@@ -77,34 +76,20 @@ fn fits_seated(
     net: &[u8],
     ends: &[u16],
     terms: usize,
-    count: usize,
-    individuals: usize,
     rows: &[u8],
     seats: &[u16],
     k: usize,
     c: usize,
 ) -> bool
-    requires { ⌜ Problem steps terms (now net) (now ends) count individuals (now rows) ⌝ }
-    requires { ⌜ (k < 8) × (k ≤ length (now seats)) × (c < 16384) × SeatedBelow (now seats) k ⌝ }
+    requires { ⌜ Wired steps terms (now net) (now ends) ⌝ }
+    requires { ⌜ (1048576 ≤ length (now rows)) × (k < 8) × (k ≤ length (now seats)) × (c < 16384) × SeatedBelow (now seats) k ⌝ }
     ensures { λ r. ⌜ Tells r ((i : ℕ) → i < k
         → Fits steps (now (net .entry)) (now (ends .entry)) i k (rowAt (now (rows .entry)) (getD (now (seats .entry)) i 0)) (rowAt (now (rows .entry)) c)) ⌝ }
 {
     let mut i = 0;
     while i < k {
         let d = seats[i] as usize;
-        if !compatible(
-            steps,
-            net,
-            ends,
-            terms,
-            count,
-            individuals,
-            rows,
-            i,
-            d,
-            k,
-            c,
-        ) {
+        if !compatible(steps, net, ends, terms, rows, i, d, k, c) {
             return false;
         }
         i += 1;
@@ -138,18 +123,7 @@ fn next_fit(
             c += gap;
             continue;
         }
-        if fits_seated(
-            steps,
-            net,
-            ends,
-            terms,
-            count,
-            individuals,
-            rows,
-            seats,
-            k,
-            c,
-        ) {
+        if fits_seated(steps, net, ends, terms, rows, seats, k, c) {
             return c;
         }
         c += 1;

@@ -16,16 +16,16 @@ use Rattle.arcs.proofs.revise_by.Statement.{statement}
 use Rattle.arcs.proofs.revise_by.Tie as tie
 
 between-requires : tie.Need-between-requires
-between-requires c κs = let s = c .before .before .before .before .before in let a = s .args in let w = s .pre .0 in let p = s .pre .1 .0 in (omega (arith, p .0, w .individuals-few), omega (arith, p .1, w .individuals-few), w .ends-long, w .laid)
+between-requires c κs = let s = c .before .before .before .before .before in let a = s .args in let w = s .pre .0 in let p = s .pre .1 .0 in (omega (arith, p .0, w .individuals-few), omega (arith, p .1, w .individuals-few), w .wired .long, w .wired .laid)
 
 between-requires-2 : tie.Need-between-requires-2
-between-requires-2 c κs = let s = c .before .before .before .before .before .before in let a = s .args in let w = s .pre .0 in let p = s .pre .1 .0 in (omega (arith, p .1, w .individuals-few), omega (arith, p .0, w .individuals-few), w .ends-long, w .laid)
+between-requires-2 c κs = let s = c .before .before .before .before .before .before in let a = s .args in let w = s .pre .0 in let p = s .pre .1 .0 in (omega (arith, p .1, w .individuals-few), omega (arith, p .0, w .individuals-few), w .wired .long, w .wired .laid)
 
 returns : tie.Need-returns
 returns c = let s = c .before .before .before .before .before .before .before .before .before in let a = s .args in let w = s .pre .0 in let p = s .pre .1 .0 in (revised-none (a .steps) (a .net .now) (a .ends .now) (a .count) (a .rows .now) (a .individuals) (SupportedBy (a .steps) (a .net .now) (a .ends .now) (a .count) (a .rows .now) (a .j) (a .i)) (a .table .now) (λ h. absurd (omega (arith, h, c .before .if1 .taken, c .if2 .taken, ap length (c .before .before .before .between .ensures), ap length (c .before .before .between2 .ensures)))), s .pre .1 .1 .0)
 
 revise-requires : tie.Need-revise-requires
-revise-requires c κs = let s = c .before .before .before .before .before .before .before .before .before .before in let a = s .args in let w = s .pre .0 in let p = s .pre .1 .0 in ((subst (λ (x : List ℕ). AllRight (a .steps) (a .terms) x) (sym (c .before .before .before .before .between .ensures)) (w .right (8 * a .j + a .i) (omega (arith, p .0, p .1, w .individuals-few))), subst (λ (x : List ℕ). AllRight (a .steps) (a .terms) x) (sym (c .before .before .before .between2 .ensures)) (w .right (8 * a .i + a .j) (omega (arith, p .0, p .1, w .individuals-few))), subst (λ (x : List ℕ). constraintCount x ≤ 64) (sym (c .before .before .before .before .between .ensures)) (constraints-few (a .net .now) (a .ends .now) (w .laid) (8 * a .j + a .i) (omega (arith, p .0, p .1, w .individuals-few))), subst (λ (x : List ℕ). constraintCount x ≤ 64) (sym (c .before .before .before .between2 .ensures)) (constraints-few (a .net .now) (a .ends .now) (w .laid) (8 * a .i + a .j) (omega (arith, p .0, p .1, w .individuals-few))), w .terms-few), ((p .0, p .1, w .individuals-few, p .2, w .candidates-few), (p .3, w .rows-long, p .4, s .pre .1 .1 .0, s .pre .1 .1 .1)))
+revise-requires c κs = let s = c .before .before .before .before .before .before .before .before .before .before in let a = s .args in let w = s .pre .0 in let p = s .pre .1 .0 in ((subst (λ (x : List ℕ). AllRight (a .steps) (a .terms) x) (sym (c .before .before .before .before .between .ensures)) (w .wired .right (8 * a .j + a .i) (omega (arith, p .0, p .1, w .individuals-few))), subst (λ (x : List ℕ). AllRight (a .steps) (a .terms) x) (sym (c .before .before .before .between2 .ensures)) (w .wired .right (8 * a .i + a .j) (omega (arith, p .0, p .1, w .individuals-few))), subst (λ (x : List ℕ). constraintCount x ≤ 64) (sym (c .before .before .before .before .between .ensures)) (constraints-few (a .net .now) (a .ends .now) (w .wired .laid) (8 * a .j + a .i) (omega (arith, p .0, p .1, w .individuals-few))), subst (λ (x : List ℕ). constraintCount x ≤ 64) (sym (c .before .before .before .between2 .ensures)) (constraints-few (a .net .now) (a .ends .now) (w .wired .laid) (8 * a .i + a .j) (omega (arith, p .0, p .1, w .individuals-few))), w .wired .few), ((p .0, p .1, w .individuals-few, p .2, w .candidates-few), (p .3, w .rows-long, p .4, s .pre .1 .1 .0, s .pre .1 .1 .1)))
 
 same-length : tie.Need-same-length
 same-length c = c .before .before .before .before .before .revise .kept .1 .1 .1 .1 .1 .1 .1 .0

@@ -15,16 +15,16 @@ use Rattle.arcs.proofs.seek.Statement.{statement}
 use Rattle.arcs.proofs.seek.Tie as tie
 
 abbrev Inv-loop : tie.InvT-loop
-Inv-loop bounds table rows individuals i start to count d₀ d = (x : ℕ) → x < d → start ≤ x → ¬ Hit bounds table rows i x
+Inv-loop bounds table rows i start to d₀ d = (x : ℕ) → x < d → start ≤ x → ¬ Hit bounds table rows i x
 
 abbrev μ-loop : tie.MeasureT-loop
-μ-loop bounds table rows individuals i start to count d₀ d = to - d
+μ-loop bounds table rows i start to d₀ d = to - d
 
 loop-holds : tie.Need-loop-holds Inv-loop μ-loop
 loop-holds c = λ x l h. absurd (omega arith)
 
 leap-requires : tie.Need-leap-requires Inv-loop μ-loop
-leap-requires c κs = let s = c .before .before .before .before .before in let a = s .args in let p = s .pre .0 in let l = c .before .loop in (omega (arith, p .0, p .1), omega (arith, c .loop-test .taken, p .2, p .3), p .4, p .6 (a .i) (p .0) (l .d) (omega arith) (omega (arith, c .loop-test .taken, p .2)))
+leap-requires c κs = let s = c .before .before .before .before .before in let a = s .args in let p = s .pre .0 in let l = c .before .loop in (p .0, omega (arith, c .loop-test .taken, p .1), p .2, p .4 (l .d) (omega arith) (c .loop-test .taken))
 
 add-d : tie.Need-add-d Inv-loop μ-loop
 add-d c = omega (arith, c .before .leap .ensures .2, c .before .before .loop-test .taken, c .before .before .before .before .before .before .before .pre .0)

@@ -25,7 +25,7 @@ slice-aggregate-seek-around : tie.Need-slice-aggregate-seek-around
 slice-aggregate-seek-around c = let s = c .before .before .before .before .before .before .before .before .before .before .before in let a = s .args in let t = c .before .before .before .make-box in sym (box-long (a .steps) (a .terms) _ (a .bounds .now) _ (t .result) (t .ensures .0) (omega (arith, t .ensures .1, t .kept .1 .1 .1 .1 .1 .0, s .pre .1 .1 .2)))
 
 seek-around-requires : tie.Need-seek-around-requires
-seek-around-requires c κs = let s = c .before .before .before .before .before .before .before .before .before .before .before in let a = s .args in let t = c .before .before .before .make-box in let p = s .pre .1 .0 in let o = box-of (a .steps) (a .terms) _ (a .bounds .now) _ (t .result) (t .ensures .0) (omega (arith, t .ensures .1, t .kept .1 .1 .1 .1 .1 .0, s .pre .1 .1 .2)) in ((p .0, p .1, p .3, p .4, s .pre .1 .1 .0, s .pre .1 .1 .1, s .pre .1 .1 .3), λ x h. omega (arith, o .terms x h, s .pre .0 .4))
+seek-around-requires c κs = let s = c .before .before .before .before .before .before .before .before .before .before .before in let a = s .args in let t = c .before .before .before .make-box in let p = s .pre .1 .0 in let o = box-of (a .steps) (a .terms) _ (a .bounds .now) _ (t .result) (t .ensures .0) (omega (arith, t .ensures .1, t .kept .1 .1 .1 .1 .1 .0, s .pre .1 .1 .2)) in ((omega (arith, p .0, p .1), p .3, p .4, s .pre .1 .1 .0, s .pre .1 .1 .1, s .pre .1 .1 .3 (a .i) (p .0)), λ x h. omega (arith, o .terms x h, s .pre .0 .4))
 
 same-length : tie.Need-same-length
 same-length c = search needs

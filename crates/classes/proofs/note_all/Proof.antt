@@ -30,7 +30,7 @@ loop-again : tie.Need-loop-again Inv-loop μ-loop
 loop-again c =
     let s = c .before .before .before .before .before .before in
     let a = s .args in
-    let p = s .pre .0 in
+    let p = s .pre in
     let l = c .before .before .loop in
     (l .inv .0, omega (arith, c .before .loop-test .taken), read-self (a .net .now) (a .ends .now) (a .j) (l .next) (l .seen) (c .if1 .taken) (l .inv .2))
 
@@ -38,33 +38,33 @@ between-requires : tie.Need-between-requires Inv-loop μ-loop
 between-requires c κs =
     let s = c .before .before .before .before .before .before in
     let a = s .args in
-    let p = s .pre .0 in
+    let p = s .pre in
     let l = c .before .before .loop in
-    (p .0, c .before .loop-test .taken, p .1, p .2)
+    (p .1 .0, c .before .loop-test .taken, p .0 .long, p .0 .laid)
 
 note-list-requires : tie.Need-note-list-requires Inv-loop μ-loop
 note-list-requires c κs =
     let s = c .before .before .before .before .before .before .before .before in
     let a = s .args in
-    let p = s .pre .0 in
+    let p = s .pre in
     let l = c .before .before .before .before .loop in
-    (rw (c .before .between .ensures) (s .pre .1 (8 * a .j + l .next) (omega (arith, p .0, c .before .before .before .loop-test .taken))), omega (arith, l .inv .0, p .3), omega arith)
+    (rw (c .before .between .ensures) (s .pre .0 .right (8 * a .j + l .next) (omega (arith, p .1 .0, c .before .before .before .loop-test .taken))), omega (arith, l .inv .0, p .1 .1), omega arith)
 
 between-requires-2 : tie.Need-between-requires-2 Inv-loop μ-loop
 between-requires-2 c κs =
     let s = c .before .before .before .before .before .before .before .before .before .before .before in
     let a = s .args in
-    let p = s .pre .0 in
+    let p = s .pre in
     let l = c .before .before .before .before .before .before .before .loop in
-    (c .before .before .before .before .before .before .loop-test .taken, p .0, p .1, p .2)
+    (c .before .before .before .before .before .before .loop-test .taken, p .1 .0, p .0 .long, p .0 .laid)
 
 note-list-requires-2 : tie.Need-note-list-requires-2 Inv-loop μ-loop
 note-list-requires-2 c κs =
     let s = c .before .before .before .before .before .before .before .before .before .before .before .before .before in
     let a = s .args in
-    let p = s .pre .0 in
+    let p = s .pre in
     let l = c .before .before .before .before .before .before .before .before .before .loop in
-    (rw (c .before .between2 .ensures) (s .pre .1 (8 * l .next + a .j) (omega (arith, p .0, c .before .before .before .before .before .before .before .before .loop-test .taken))), omega (arith, c .before .before .before .before .note-list .kept .1 .1 .1 .1 .0, l .inv .0, p .3), omega arith)
+    (rw (c .before .between2 .ensures) (s .pre .0 .right (8 * l .next + a .j) (omega (arith, p .1 .0, c .before .before .before .before .before .before .before .before .loop-test .taken))), omega (arith, c .before .before .before .before .note-list .kept .1 .1 .1 .1 .0, l .inv .0, p .1 .1), omega arith)
 
 loop-less-2 : tie.Need-loop-less-2 Inv-loop μ-loop
 loop-less-2 c = search needs
@@ -73,7 +73,7 @@ loop-again-2 : tie.Need-loop-again-2 Inv-loop μ-loop
 loop-again-2 c =
     let s = c .before .before .before .before .before .before .before .before .before .before .before .before .before .before .before .before in
     let a = s .args in
-    let p = s .pre .0 in
+    let p = s .pre in
     let l = c .before .before .before .before .before .before .before .before .before .before .before .before .loop in
     let t = c .before .before .before .before .before .before .before .note-list in
     let u = c .before .before .note-list2 in

@@ -14,7 +14,7 @@ note-all-requires c κs =
     let a = s .args in
     let w = s .pre .0 in
     let p = s .pre .1 in
-    ((omega (arith, p .0, w .individuals-few), w .ends-long, w .laid, omega (arith, w .terms-few, p .2)), w .right)
+    (w .wired, (omega (arith, p .0, w .individuals-few), omega (arith, w .wired .few, p .2)))
 
 list-read-requires : tie.Need-list-read-requires
 list-read-requires c κs =

@@ -21,10 +21,10 @@ loop-holds : tie.Need-loop-holds Inv-loop μ-loop
 loop-holds c =
     let s = c .before .before .before .before .before in
     let a = s .args in
-    (omega arith, refl, column-start (a .steps) (a .memberships .now) (a .net .now) (a .ends .now) (a .row .now) (a .c) (s .pre .1 .1 .4) (a .table .now))
+    (omega arith, refl, column-start (a .steps) (a .memberships .now) (a .net .now) (a .ends .now) (a .row .now) (a .c) (s .pre .1 .1 .2) (a .table .now))
 
 admitted-requires : tie.Need-admitted-requires Inv-loop μ-loop
-admitted-requires c κs = let s = c .before .before .before .before .before .before .before in (s .pre .0, (s .pre .1 .0, (omega (arith, c .loop-test .taken, s .pre .1 .1 .0), s .pre .1 .1 .1, s .pre .1 .1 .2, s .pre .1 .1 .3)))
+admitted-requires c κs = let s = c .before .before .before .before .before .before .before in (s .pre .0, (s .pre .1 .0, (omega (arith, c .loop-test .taken, s .pre .1 .1 .0), s .pre .1 .1 .1)))
 
 mul-table : tie.Need-mul-table Inv-loop μ-loop
 mul-table c = search needs
@@ -45,7 +45,7 @@ loop-again : tie.Need-loop-again Inv-loop μ-loop
 loop-again c =
     let s = c .before .before .before .before .before .before .before .before in
     let a = s .args in
-    (omega arith, length-set (c .before .before .loop .table) (16384 * c .before .before .loop .j + a .c) (c .admitted .result) ∙ c .before .before .loop .inv .1, column-turn (a .steps) (a .memberships .now) (a .net .now) (a .ends .now) (a .row .now) (a .c) (s .pre .1 .1 .4) (a .table .now) (c .before .before .loop .j) (c .before .before .loop .table) (c .admitted .result) (omega (arith, c .before .before .loop .inv .1, s .pre .1 .1)) (c .admitted .ensures) (c .before .before .loop .inv .2))
+    (omega arith, length-set (c .before .before .loop .table) (16384 * c .before .before .loop .j + a .c) (c .admitted .result) ∙ c .before .before .loop .inv .1, column-turn (a .steps) (a .memberships .now) (a .net .now) (a .ends .now) (a .row .now) (a .c) (s .pre .1 .1 .2) (a .table .now) (c .before .before .loop .j) (c .before .before .loop .table) (c .admitted .result) (omega (arith, c .before .before .loop .inv .1, s .pre .1 .1)) (c .admitted .ensures) (c .before .before .loop .inv .2))
 
 same-length : tie.Need-same-length Inv-loop μ-loop
 same-length c = c .before .loop .inv .1

@@ -53,7 +53,7 @@ allow-row-requires c κs =
     let l = c .before .before .before .before .before .loop in
     let below = c .before .before .before .before .loop-test .taken in
     let long = length-rowAt (a .rows .now) (l .entered) (omega (arith, below, p .candidates-few, p .rows-long)) in
-    (s .pre .0, (p .right, (p .individuals-few, p .ends-long, p .laid, rw (c .before .row-at .ensures) (omega (arith, long, p .terms-few)), omega (arith, below, p .candidates-few), omega (arith, l .inv .1, s .pre .1 .1 .1))))
+    (s .pre .0, (p .wired, (p .individuals-few, rw (c .before .row-at .ensures) (omega (arith, long, p .wired .few)), omega (arith, below, p .candidates-few), omega (arith, l .inv .1, s .pre .1 .1 .1))))
 
 loop-less-2 : tie.Need-loop-less-2 Inv-loop μ-loop
 loop-less-2 c = search needs

@@ -12,10 +12,10 @@ use Rattle.placer.proofs.fits_seated.Statement.{statement}
 use Rattle.placer.proofs.fits_seated.Tie as tie
 
 abbrev Inv-loop : tie.InvT-loop
-Inv-loop steps net ends terms count individuals rows seats k c i₀ i = (i ≤ k) × ((x : ℕ) → x < i → Fits steps net ends x k (rowAt rows (getD seats x 0)) (rowAt rows c))
+Inv-loop steps net ends terms rows seats k c i₀ i = (i ≤ k) × ((x : ℕ) → x < i → Fits steps net ends x k (rowAt rows (getD seats x 0)) (rowAt rows c))
 
 abbrev μ-loop : tie.MeasureT-loop
-μ-loop steps net ends terms count individuals rows seats k c i₀ i = k - i
+μ-loop steps net ends terms rows seats k c i₀ i = k - i
 
 loop-holds : tie.Need-loop-holds Inv-loop μ-loop
 loop-holds c = (omega arith, below-none _)
@@ -27,11 +27,11 @@ shared-slice-read-d : tie.Need-shared-slice-read-d Inv-loop μ-loop
 shared-slice-read-d c = search needs
 
 cast-d : tie.Need-cast-d Inv-loop μ-loop
-cast-d c = omega (arith, c .before .before .before .before .before .before .before .pre .1 .3 (c .before .before .loop .i) (c .before .loop-test .taken))
+cast-d c = omega (arith, c .before .before .before .before .before .before .before .pre .1 .4 (c .before .before .loop .i) (c .before .loop-test .taken))
 
 compatible-requires : tie.Need-compatible-requires Inv-loop μ-loop
 compatible-requires c κs = let s = c .before .before .before .before .before .before .before in
-    (s .pre .0, (omega (arith, c .before .loop-test .taken, s .pre .1 .0), s .pre .1 .0, s .pre .1 .3 (c .before .before .loop .i) (c .before .loop-test .taken), s .pre .1 .2))
+    (s .pre .0, (s .pre .1 .0, omega (arith, c .before .loop-test .taken, s .pre .1 .1), s .pre .1 .1, s .pre .1 .4 (c .before .before .loop .i) (c .before .loop-test .taken), s .pre .1 .3))
 
 returns : tie.Need-returns Inv-loop μ-loop
 returns c = tells-no (λ h. told-no _ (c .before .compatible .ensures) (c .if1 .taken) (h (c .before .before .before .before .loop .i) (c .before .before .before .loop-test .taken)))

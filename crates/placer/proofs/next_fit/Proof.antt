@@ -52,7 +52,7 @@ fits-seated-requires c κs =
     let a = s .args in
     let w = s .pre .0 in
     let l = c .before .before .before .loop in
-    (w .problem, (omega (arith, s .pre .1 .0, w .problem .individuals-few), s .pre .1 .1, omega (arith, c .before .before .loop-test .taken, w .problem .candidates-few), s .pre .1 .2))
+    (w .problem .wired, (w .problem .rows-long, omega (arith, s .pre .1 .0, w .problem .individuals-few), s .pre .1 .1, omega (arith, c .before .before .loop-test .taken, w .problem .candidates-few), s .pre .1 .2))
 
 returns : tie.Need-returns Inv-loop μ-loop
 returns c =

@@ -26,10 +26,7 @@ fill-table-requires c κs =
     let ends = k .last .1 .1 .1 .1 .0 in
     let rows = r .last .1 .1 .1 .1 .0 in
     let problem : Problem (a .steps) (termCount (a .terms .now)) net ends (a .count) (a .individuals) rows = record {
-      laid = k .ensures .laid;
-      ends-long = omega (arith, k .kept .1 .1 .1 .1 .0, y .1);
-      right = k .ensures .right;
-      terms-few = s .pre .1 .1 .1 .0;
+      wired = record { laid = k .ensures .laid; long = omega (arith, k .kept .1 .1 .1 .1 .0, y .1); right = k .ensures .right; few = s .pre .1 .1 .1 .0 };
       candidates-few = z .0;
       individuals-few = omega (arith, z .2, individuals-at-most (a .steps) (a .terms .now) (a .memberships .now) (a .links .now) (s .pre .1 .0) (s .pre .1 .1 .0));
       rows-long = omega (arith, r .kept .1 .1 .1 .1 .0, y .3);
@@ -91,10 +88,7 @@ place-thinned-requires c κs =
     let ends = k .last .1 .1 .1 .1 .0 in
     let rows = r .last .1 .1 .1 .1 .0 in
     let problem : Problem (a .steps) (termCount (a .terms .now)) net ends (a .count) (a .individuals) rows = record {
-      laid = k .ensures .laid;
-      ends-long = omega (arith, k .kept .1 .1 .1 .1 .0, y .1);
-      right = k .ensures .right;
-      terms-few = s .pre .1 .1 .1 .0;
+      wired = record { laid = k .ensures .laid; long = omega (arith, k .kept .1 .1 .1 .1 .0, y .1); right = k .ensures .right; few = s .pre .1 .1 .1 .0 };
       candidates-few = z .0;
       individuals-few = omega (arith, z .2, individuals-at-most (a .steps) (a .terms .now) (a .memberships .now) (a .links .now) (s .pre .1 .0) (s .pre .1 .1 .0));
       rows-long = omega (arith, r .kept .1 .1 .1 .1 .0, y .3);
