@@ -1,6 +1,6 @@
 // Thinning: of the candidates that look alike to the constraints between an individual and the others, the first is kept.
 ghost use mathlib.Core.Path.{_≡_};
-ghost use Prim.Native.Nat.{ℕ, _+_, _*_, _<_, _≤_};
+ghost use Prim.Native.Nat.{ℕ, _+_, _<_, _≤_};
 ghost use lib.ListN.{length, getD};
 ghost use Rattle.chain.specs.Decisions.{Tells};
 ghost use Rattle.network.specs.Constraints.{constraintCount, AllRight};

@@ -1,5 +1,5 @@
 // The domains of the individuals: the candidates that each may have, as a table.
-ghost use Prim.Native.Nat.{ℕ, _+_, _*_, _<_, _≤_};
+ghost use Prim.Native.Nat.{_+_, _<_, _≤_};
 ghost use lib.ListN.{length};
 ghost use Rattle.chain.specs.Decisions.{Tells};
 ghost use Rattle.domains.specs.Tables.{Lacks, Vain};

@@ -1,7 +1,7 @@
 // The filter: the candidates that each individual may have by the claims that mention it alone.
 ghost use mathlib.Core.Path.{_≡_};
 ghost use mathlib.Core.Logic.{_↔_};
-ghost use Prim.Native.Nat.{ℕ, _+_, _*_, _<_, _≤_};
+ghost use Prim.Native.Nat.{ℕ, _<_, _≤_};
 ghost use lib.ListN.{length, getD};
 ghost use Rattle.chain.specs.Decisions.{Tells};
 ghost use Rattle.sections.specs.Claims.{claimCount, membershipAt, MembershipsRight};

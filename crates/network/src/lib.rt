@@ -6,8 +6,8 @@ ghost use Rattle.chain.specs.Decisions.{Tells};
 ghost use Rattle.sections.specs.Terms.{termCount, TermsRight};
 ghost use Rattle.sections.specs.Claims.{claimCount, LinksRight};
 ghost use Rattle.network.specs.Levels.{levelAt, ClaimsRanged, LevelsOf};
-ghost use Rattle.network.specs.Constraints.{constraintCount, constraintAt, Met, AllMet, Right, AllRight};
-ghost use Rattle.network.specs.Network.{constraintsOf, between as betweenOf, Laid, LevelsMet, TermMet, NetworkOf, Added, Connected};
+ghost use Rattle.network.specs.Constraints.{constraintCount, constraintAt, Met, AllMet, AllRight};
+ghost use Rattle.network.specs.Network.{between as betweenOf, Laid, LevelsMet, TermMet, NetworkOf, Added, Connected};
 use sections::wide;
 
 // What a quantified term of this kind, 4 "some" or 5 "all", asks through a link of this level.
