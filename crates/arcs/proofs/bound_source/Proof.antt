@@ -13,13 +13,21 @@ wide-requires : tie.Need-wide-requires
 wide-requires c κs = search needs
 
 shared-slice-read-child : tie.Need-shared-slice-read-child
-shared-slice-read-child c = let s = c .before .before .before in let a = s .args in let q = s .pre .0 in omega (arith, c .before .wide .ensures .0, q .child-lt, s .pre .1)
+shared-slice-read-child c =
+    let s = c .before .before .before in
+    let a = s .args in
+    let q = s .pre .0 in
+    omega (arith, c .before .wide .ensures .0, q .child-lt, s .pre .1)
 
 lesser-requires : tie.Need-lesser-requires
 lesser-requires c κs = search needs
 
 returns : tie.Need-returns
-returns c = let s = c .before .before .before .before .before .before in let a = s .args in let q = s .pre .0 in source-some (a .steps) (a .terms) (a .k) q (a .target .now) (c .lesser .result) (c .lesser .ensures ∙ ap (λ (x : ℕ). min (a .k .level) (getD (a .target .now) x 0)) (c .before .before .before .before .wide .ensures .0)) (c .before .if1 .taken)
+returns c =
+    let s = c .before .before .before .before .before .before in
+    let a = s .args in
+    let q = s .pre .0 in
+    source-some (a .steps) (a .terms) (a .k) q (a .target .now) (c .lesser .result) (c .lesser .ensures ∙ ap (λ (x : ℕ). min (a .k .level) (getD (a .target .now) x 0)) (c .before .before .before .before .wide .ensures .0)) (c .before .if1 .taken)
 
 sub-greater : tie.Need-sub-greater
 sub-greater c = search needs
@@ -28,10 +36,18 @@ greater-requires : tie.Need-greater-requires
 greater-requires c κs = search needs
 
 returns-2 : tie.Need-returns-2
-returns-2 c = let s = c .before .before .before .before .before .before .before .before .before in let a = s .args in let q = s .pre .0 in source-all (a .steps) (a .terms) (a .k) q (a .target .now) (c .greater .result) (c .greater .ensures ∙ ap (λ (x : ℕ). max (a .steps - a .k .level) (getD (a .target .now) x 0)) (c .before .before .before .before .before .before .before .wide .ensures .0)) (c .before .before .if2 .taken)
+returns-2 c =
+    let s = c .before .before .before .before .before .before .before .before .before in
+    let a = s .args in
+    let q = s .pre .0 in
+    source-all (a .steps) (a .terms) (a .k) q (a .target .now) (c .greater .result) (c .greater .ensures ∙ ap (λ (x : ℕ). max (a .steps - a .k .level) (getD (a .target .now) x 0)) (c .before .before .before .before .before .before .before .wide .ensures .0)) (c .before .before .if2 .taken)
 
 returns-3 : tie.Need-returns-3
-returns-3 c = let s = c .before .before .before .before .before .before .before in let a = s .args in let q = s .pre .0 in source-none (a .steps) (a .terms) (a .k) q (a .target .now) (c .before .before .if1 .left) (c .if2 .left)
+returns-3 c =
+    let s = c .before .before .before .before .before .before .before in
+    let a = s .args in
+    let q = s .pre .0 in
+    source-none (a .steps) (a .terms) (a .k) q (a .target .now) (c .before .before .if1 .left) (c .if2 .left)
 
 pub bound-source-spec : {M : Type 1} → statement M
 bound-source-spec =

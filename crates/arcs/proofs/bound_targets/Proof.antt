@@ -19,16 +19,27 @@ abbrev μ-loop : tie.MeasureT-loop
 μ-loop steps s terms source bounds₀ start count m₀ y₀ bounds m y = constraintCount s - y
 
 loop-holds : tie.Need-loop-holds Inv-loop μ-loop
-loop-holds c = let s = c .before .before .before in let a = s .args in (refl, omega arith, omega arith, narrowed-none _ _ _ _ _ (λ v on z l. absurd (omega arith)))
+loop-holds c =
+    let s = c .before .before .before in
+    let a = s .args in
+    (refl, omega arith, omega arith, narrowed-none _ _ _ _ _ (λ v on z l. absurd (omega arith)))
 
 constraint-at-requires : tie.Need-constraint-at-requires Inv-loop μ-loop
 constraint-at-requires c κs = search needs
 
 bound-target-requires : tie.Need-bound-target-requires Inv-loop μ-loop
-bound-target-requires c κs = let s = c .before .before .before .before .before .before in let a = s .args in let l = c .before .before .loop in (subst (λ (k : Constraint). Right (a .steps) (a .terms) k) (sym (c .constraint-at .ensures)) (s .pre .0 (l .y) (omega (arith, c .before .loop-test .taken))), s .pre .1)
+bound-target-requires c κs =
+    let s = c .before .before .before .before .before .before in
+    let a = s .args in
+    let l = c .before .before .loop in
+    (subst (λ (k : Constraint). Right (a .steps) (a .terms) k) (sym (c .constraint-at .ensures)) (s .pre .0 (l .y) (omega (arith, c .before .loop-test .taken))), s .pre .1)
 
 put-bound-requires : tie.Need-put-bound-requires Inv-loop μ-loop
-put-bound-requires c κs = let s = c .before .before .before .before .before .before .before .before in let a = s .args in let l = c .before .before .before .before .loop in (c .before .bound-target .ensures .term-lt, omega (arith, l .inv .0, l .inv .2, c .before .before .before .loop-test .taken, s .pre .2))
+put-bound-requires c κs =
+    let s = c .before .before .before .before .before .before .before .before in
+    let a = s .args in
+    let l = c .before .before .before .before .loop in
+    (c .before .bound-target .ensures .term-lt, omega (arith, l .inv .0, l .inv .2, c .before .before .before .loop-test .taken, s .pre .2))
 
 add-y : tie.Need-add-y Inv-loop μ-loop
 add-y c = search needs
@@ -37,13 +48,27 @@ loop-less : tie.Need-loop-less Inv-loop μ-loop
 loop-less c = search needs
 
 loop-again : tie.Need-loop-again Inv-loop μ-loop
-loop-again c = let s = c .before .before .before .before .before .before .before .before .before .before .before in let a = s .args in let l = c .before .before .before .before .before .before .before .loop in let t = c .before .before .put-bound in (t .kept .1 .1 .1 .0 ∙ l .inv .0, omega (arith, c .before .before .before .before .before .before .loop-test .taken), omega (arith, t .ensures .1, l .inv .2), narrowed-more (a .steps) (a .terms) (λ z v. Met (a .steps) (constraintAt (a .s .now) z) (a .source .now) v) (l .y) (c .before .before .before .before .bound-target .result) (a .bounds .now) (a .start) (l .bounds) (l .m) _ (t .result) (subst (λ (k : Constraint). Asks (a .steps) (a .terms) (Met (a .steps) k (a .source .now)) (c .before .before .before .before .bound-target .result)) (c .before .before .before .before .before .constraint-at .ensures) (c .before .before .before .before .bound-target .ensures)) (l .inv .3) (t .ensures .0))
+loop-again c =
+    let s = c .before .before .before .before .before .before .before .before .before .before .before in
+    let a = s .args in
+    let l = c .before .before .before .before .before .before .before .loop in
+    let t = c .before .before .put-bound in (
+      t .kept .1 .1 .1 .0 ∙ l .inv .0,
+      omega (arith, c .before .before .before .before .before .before .loop-test .taken),
+      omega (arith, t .ensures .1, l .inv .2),
+      narrowed-more (a .steps) (a .terms) (λ z v. Met (a .steps) (constraintAt (a .s .now) z) (a .source .now) v) (l .y) (c .before .before .before .before .bound-target .result) (a .bounds .now) (a .start) (l .bounds) (l .m) _ (t .result) (subst (λ (k : Constraint). Asks (a .steps) (a .terms) (Met (a .steps) k (a .source .now)) (c .before .before .before .before .bound-target .result)) (c .before .before .before .before .before .constraint-at .ensures) (c .before .before .before .before .bound-target .ensures)) (l .inv .3) (t .ensures .0),
+    )
 
 same-length : tie.Need-same-length Inv-loop μ-loop
 same-length c = c .before .loop .inv .0
 
 returns : tie.Need-returns Inv-loop μ-loop
-returns c = let s = c .before .before .before .before .before in let a = s .args in let l = c .before .loop in let e : l .y ≡ constraintCount (a .s .now) = omega (arith, l .inv .1, c .loop-test .left) in (subst (λ (x : ℕ). Narrowed (a .steps) (a .terms) (λ v. (z : ℕ) → z < x → Met (a .steps) (constraintAt (a .s .now) z) (a .source .now) v) (a .bounds .now) (a .start) (l .bounds) (l .m)) e (l .inv .3), omega (arith, l .inv .2))
+returns c =
+    let s = c .before .before .before .before .before in
+    let a = s .args in
+    let l = c .before .loop in
+    let e : l .y ≡ constraintCount (a .s .now) = omega (arith, l .inv .1, c .loop-test .left) in
+    (subst (λ (x : ℕ). Narrowed (a .steps) (a .terms) (λ v. (z : ℕ) → z < x → Met (a .steps) (constraintAt (a .s .now) z) (a .source .now) v) (a .bounds .now) (a .start) (l .bounds) (l .m)) e (l .inv .3), omega (arith, l .inv .2))
 
 pub bound-targets-spec : {M : Type 1} → statement M
 bound-targets-spec =

@@ -30,7 +30,10 @@ wide-requires : tie.Need-wide-requires Inv-loop μ-loop
 wide-requires c κs = search needs
 
 shared-slice-read-grade : tie.Need-shared-slice-read-grade Inv-loop μ-loop
-shared-slice-read-grade c = let s = c .before .before .before .before .before .before .before in let a = s .args in omega (arith, c .before .wide .ensures .0, s .pre (c .before .before .before .before .loop .x) (omega (arith, c .before .before .before .loop-test .taken)))
+shared-slice-read-grade c =
+    let s = c .before .before .before .before .before .before .before in
+    let a = s .args in
+    omega (arith, c .before .wide .ensures .0, s .pre (c .before .before .before .before .loop .x) (omega (arith, c .before .before .before .loop-test .taken)))
 
 mul-if1 : tie.Need-mul-if1 Inv-loop μ-loop
 mul-if1 c = search needs
@@ -42,7 +45,11 @@ shared-slice-read-if1 : tie.Need-shared-slice-read-if1 Inv-loop μ-loop
 shared-slice-read-if1 c = search needs
 
 returns : tie.Need-returns Inv-loop μ-loop
-returns c = let s = c .before .before .before .before .before .before .before .before .before in let a = s .args in let g = ap (λ (z : ℕ). getD (a .row .now) z 0) (c .before .before .before .wide .ensures .0) in tells-no (λ h. let w = h (c .before .before .before .before .before .before .loop .x) (omega (arith, c .before .before .before .before .before .loop-test .taken)) in omega (arith, w .0, g, c .if1 .taken))
+returns c =
+    let s = c .before .before .before .before .before .before .before .before .before in
+    let a = s .args in
+    let g = ap (λ (z : ℕ). getD (a .row .now) z 0) (c .before .before .before .wide .ensures .0) in
+    tells-no (λ h. let w = h (c .before .before .before .before .before .before .loop .x) (omega (arith, c .before .before .before .before .before .loop-test .taken)) in omega (arith, w .0, g, c .if1 .taken))
 
 mul-if2 : tie.Need-mul-if2 Inv-loop μ-loop
 mul-if2 c = search needs
@@ -54,7 +61,11 @@ shared-slice-read-if2 : tie.Need-shared-slice-read-if2 Inv-loop μ-loop
 shared-slice-read-if2 c = search needs
 
 returns-2 : tie.Need-returns-2 Inv-loop μ-loop
-returns-2 c = let s = c .before .before .before .before .before .before .before .before .before .before .before in let a = s .args in let g = ap (λ (z : ℕ). getD (a .row .now) z 0) (c .before .before .before .before .before .wide .ensures .0) in tells-no (λ h. let w = h (c .before .before .before .before .before .before .before .before .loop .x) (omega (arith, c .before .before .before .before .before .before .before .loop-test .taken)) in omega (arith, w .1, g, c .if2 .taken))
+returns-2 c =
+    let s = c .before .before .before .before .before .before .before .before .before .before .before in
+    let a = s .args in
+    let g = ap (λ (z : ℕ). getD (a .row .now) z 0) (c .before .before .before .before .before .wide .ensures .0) in
+    tells-no (λ h. let w = h (c .before .before .before .before .before .before .before .before .loop .x) (omega (arith, c .before .before .before .before .before .before .before .loop-test .taken)) in omega (arith, w .1, g, c .if2 .taken))
 
 add-x : tie.Need-add-x Inv-loop μ-loop
 add-x c = search needs
@@ -63,7 +74,13 @@ loop-less : tie.Need-loop-less Inv-loop μ-loop
 loop-less c = search needs
 
 loop-again : tie.Need-loop-again Inv-loop μ-loop
-loop-again c = let s = c .before .before .before .before .before .before .before .before .before .before .before in let a = s .args in let g = ap (λ (z : ℕ). getD (a .row .now) z 0) (c .before .before .before .before .before .wide .ensures .0) in (omega (arith, c .before .before .before .before .before .before .before .loop-test .taken), below-more (λ z. Within (boundAt (a .bounds .now) z) (a .row .now)) (c .before .before .before .before .before .before .before .before .loop .x) (c .before .before .before .before .before .before .before .before .loop .inv .1) (omega (arith, g, c .before .before .if1 .left), omega (arith, g, c .if2 .left)))
+loop-again c =
+    let s = c .before .before .before .before .before .before .before .before .before .before .before in
+    let a = s .args in
+    let g = ap (λ (z : ℕ). getD (a .row .now) z 0) (c .before .before .before .before .before .wide .ensures .0) in (
+      omega (arith, c .before .before .before .before .before .before .before .loop-test .taken),
+      below-more (λ z. Within (boundAt (a .bounds .now) z) (a .row .now)) (c .before .before .before .before .before .before .before .before .loop .x) (c .before .before .before .before .before .before .before .before .loop .inv .1) (omega (arith, g, c .before .before .if1 .left), omega (arith, g, c .if2 .left)),
+    )
 
 returns-3 : tie.Need-returns-3 Inv-loop μ-loop
 returns-3 c = tells-yes (λ x l. c .before .loop .inv .1 x (omega (arith, l, c .loop-test .left)))

@@ -21,25 +21,51 @@ abbrev μ-loop : tie.MeasureT-loop
 μ-loop steps net ends terms count individuals rows table₀ bounds₀ table bounds = left table
 
 loop-holds : tie.Need-loop-holds Inv-loop μ-loop
-loop-holds c = let s = c .before .before .before .before in let a = s .args in (refl, refl, s .pre .1 .1 .0, pruned-none (a .steps) (a .net .now) (a .ends .now) (a .count) (a .rows .now) (a .individuals) (a .table .now))
+loop-holds c =
+    let s = c .before .before .before .before in
+    let a = s .args in
+    (refl, refl, s .pre .1 .1 .0, pruned-none (a .steps) (a .net .now) (a .ends .now) (a .count) (a .rows .now) (a .individuals) (a .table .now))
 
 slice-aggregate-pass : tie.Need-slice-aggregate-pass Inv-loop μ-loop
 slice-aggregate-pass c = sym (c .before .before .loop .inv .1)
 
 pass-requires : tie.Need-pass-requires Inv-loop μ-loop
-pass-requires c κs = let s = c .before .before .before .before .before .before .before in let a = s .args in let l = c .before .before .loop in (s .pre .0, ((omega (arith, l .inv .0, s .pre .1 .0), omega (arith, l .inv .1)), (l .inv .2, graded-fewer (a .steps) (a .terms) (a .count) (a .individuals) (a .rows .now) (a .table .now) (l .table) (l .inv .3 .fewer) (s .pre .1 .1 .1))))
+pass-requires c κs =
+    let s = c .before .before .before .before .before .before .before in
+    let a = s .args in
+    let l = c .before .before .loop in
+    (s .pre .0, ((omega (arith, l .inv .0, s .pre .1 .0), omega (arith, l .inv .1)), (l .inv .2, graded-fewer (a .steps) (a .terms) (a .count) (a .individuals) (a .rows .now) (a .table .now) (l .table) (l .inv .3 .fewer) (s .pre .1 .1 .1))))
 
 same-length : tie.Need-same-length Inv-loop μ-loop
 same-length c = c .before .before .before .before .pass .kept .1 .1 .1 .1 .1 .1 .1 .0 ∙ c .before .before .before .before .before .before .before .loop .inv .0
 
 returns : tie.Need-returns Inv-loop μ-loop
-returns c = let s = c .before .before .before .before .before .before .before .before .before .before .before .before in let a = s .args in let l = c .before .before .before .before .before .before .before .loop in let t = c .before .before .before .before .pass in (pruned-then (a .steps) (a .net .now) (a .ends .now) (a .count) (a .rows .now) (a .individuals) (a .table .now) (l .table) _ (l .inv .3) (t .ensures .0 .pruned), (subst (λ (x : List ℕ). ArcConsistent (a .steps) (a .net .now) (a .ends .now) (a .count) (a .rows .now) (a .individuals) x) (sym (went-not (t .result) (l .table) _ (not-true (t .result) (c .if1 .taken)) (t .ensures .0 .went))) (t .ensures .0 .held (not-true (t .result) (c .if1 .taken))), t .ensures .1))
+returns c =
+    let s = c .before .before .before .before .before .before .before .before .before .before .before .before in
+    let a = s .args in
+    let l = c .before .before .before .before .before .before .before .loop in
+    let t = c .before .before .before .before .pass in (
+      pruned-then (a .steps) (a .net .now) (a .ends .now) (a .count) (a .rows .now) (a .individuals) (a .table .now) (l .table) _ (l .inv .3) (t .ensures .0 .pruned),
+      (subst (λ (x : List ℕ). ArcConsistent (a .steps) (a .net .now) (a .ends .now) (a .count) (a .rows .now) (a .individuals) x) (sym (went-not (t .result) (l .table) _ (not-true (t .result) (c .if1 .taken)) (t .ensures .0 .went))) (t .ensures .0 .held (not-true (t .result) (c .if1 .taken))), t .ensures .1),
+    )
 
 loop-less : tie.Need-loop-less Inv-loop μ-loop
-loop-less c = let l = c .before .before .before .before .before .before .before .loop in let t = c .before .before .before .before .pass in went-less (t .result) (l .table) _ (not-false (t .result) (c .if1 .left)) (t .ensures .0 .went)
+loop-less c =
+    let l = c .before .before .before .before .before .before .before .loop in
+    let t = c .before .before .before .before .pass in
+    went-less (t .result) (l .table) _ (not-false (t .result) (c .if1 .left)) (t .ensures .0 .went)
 
 loop-again : tie.Need-loop-again Inv-loop μ-loop
-loop-again c = let s = c .before .before .before .before .before .before .before .before .before .before .before .before in let a = s .args in let l = c .before .before .before .before .before .before .before .loop in let t = c .before .before .before .before .pass in (t .kept .1 .1 .1 .1 .1 .1 .1 .0 ∙ l .inv .0, t .kept .1 .1 .1 .1 .1 .1 .1 .1 .0 ∙ l .inv .1, t .ensures .1, pruned-then (a .steps) (a .net .now) (a .ends .now) (a .count) (a .rows .now) (a .individuals) (a .table .now) (l .table) _ (l .inv .3) (t .ensures .0 .pruned))
+loop-again c =
+    let s = c .before .before .before .before .before .before .before .before .before .before .before .before in
+    let a = s .args in
+    let l = c .before .before .before .before .before .before .before .loop in
+    let t = c .before .before .before .before .pass in (
+      t .kept .1 .1 .1 .1 .1 .1 .1 .0 ∙ l .inv .0,
+      t .kept .1 .1 .1 .1 .1 .1 .1 .1 .0 ∙ l .inv .1,
+      t .ensures .1,
+      pruned-then (a .steps) (a .net .now) (a .ends .now) (a .count) (a .rows .now) (a .individuals) (a .table .now) (l .table) _ (l .inv .3) (t .ensures .0 .pruned),
+    )
 
 pub prune-spec : {M : Type 1} → statement M
 prune-spec =

@@ -9,7 +9,10 @@ use Rattle.arcs.proofs.put_bound.Statement.{statement}
 use Rattle.arcs.proofs.put_bound.Tie as tie
 
 returns : tie.Need-returns
-returns c = let s = c .before .before .before .before in let a = s .args in (narrowed-all (a .steps) (a .terms) (a .bounds .now) (a .m) (a .b) (s .pre .0) (c .before .before .if1 .taken) (c .if2 .taken), omega arith)
+returns c =
+    let s = c .before .before .before .before in
+    let a = s .args in
+    (narrowed-all (a .steps) (a .terms) (a .bounds .now) (a .m) (a .b) (s .pre .0) (c .before .before .if1 .taken) (c .if2 .taken), omega arith)
 
 mul-bounds : tie.Need-mul-bounds
 mul-bounds c = search needs
@@ -33,7 +36,10 @@ add-bounds-2 : tie.Need-add-bounds-2
 add-bounds-2 c = search needs
 
 slice-write-bounds-3 : tie.Need-slice-write-bounds-3
-slice-write-bounds-3 c = let s = c .before .before in let a = s .args in omega (arith, s .pre .1, length-set (a .bounds .now) (3 * a .m) (a .b .term), length-set (set (a .bounds .now) (3 * a .m) (a .b .term)) (3 * a .m + 1) (a .b .low))
+slice-write-bounds-3 c =
+    let s = c .before .before in
+    let a = s .args in
+    omega (arith, s .pre .1, length-set (a .bounds .now) (3 * a .m) (a .b .term), length-set (set (a .bounds .now) (3 * a .m) (a .b .term)) (3 * a .m + 1) (a .b .low))
 
 add-result : tie.Need-add-result
 add-result c = search needs
@@ -42,7 +48,10 @@ same-length : tie.Need-same-length
 same-length c = let s = c .before .before in let a = s .args in put-length (a .bounds .now) (a .m) (a .b)
 
 returns-2 : tie.Need-returns-2
-returns-2 c = let s = c .before .before in let a = s .args in (narrowed-one (a .bounds .now) (a .m) (a .b) (a .steps) (a .terms) (s .pre .0) (s .pre .1), omega arith)
+returns-2 c =
+    let s = c .before .before in
+    let a = s .args in
+    (narrowed-one (a .bounds .now) (a .m) (a .b) (a .steps) (a .terms) (s .pre .0) (s .pre .1), omega arith)
 
 pub put-bound-spec : {M : Type 1} → statement M
 put-bound-spec =

@@ -16,16 +16,40 @@ use Rattle.arcs.proofs.revise_by.Statement.{statement}
 use Rattle.arcs.proofs.revise_by.Tie as tie
 
 between-requires : tie.Need-between-requires
-between-requires c κs = let s = c .before .before .before .before .before in let a = s .args in let w = s .pre .0 in let p = s .pre .1 .0 in (omega (arith, p .0, w .individuals-few), omega (arith, p .1, w .individuals-few), w .wired .long, w .wired .laid)
+between-requires c κs =
+    let s = c .before .before .before .before .before in
+    let a = s .args in
+    let w = s .pre .0 in
+    let p = s .pre .1 .0 in
+    (omega (arith, p .0, w .individuals-few), omega (arith, p .1, w .individuals-few), w .wired .long, w .wired .laid)
 
 between-requires-2 : tie.Need-between-requires-2
-between-requires-2 c κs = let s = c .before .before .before .before .before .before in let a = s .args in let w = s .pre .0 in let p = s .pre .1 .0 in (omega (arith, p .1, w .individuals-few), omega (arith, p .0, w .individuals-few), w .wired .long, w .wired .laid)
+between-requires-2 c κs =
+    let s = c .before .before .before .before .before .before in
+    let a = s .args in
+    let w = s .pre .0 in
+    let p = s .pre .1 .0 in
+    (omega (arith, p .1, w .individuals-few), omega (arith, p .0, w .individuals-few), w .wired .long, w .wired .laid)
 
 returns : tie.Need-returns
-returns c = let s = c .before .before .before .before .before .before .before .before .before in let a = s .args in let w = s .pre .0 in let p = s .pre .1 .0 in (revised-none (a .steps) (a .net .now) (a .ends .now) (a .count) (a .rows .now) (a .individuals) (SupportedBy (a .steps) (a .net .now) (a .ends .now) (a .count) (a .rows .now) (a .j) (a .i)) (a .table .now) (λ h. absurd (omega (arith, h, c .before .if1 .taken, c .if2 .taken, ap length (c .before .before .before .between .ensures), ap length (c .before .before .between2 .ensures)))), s .pre .1 .1 .0)
+returns c =
+    let s = c .before .before .before .before .before .before .before .before .before in
+    let a = s .args in
+    let w = s .pre .0 in
+    let p = s .pre .1 .0 in (
+      revised-none (a .steps) (a .net .now) (a .ends .now) (a .count) (a .rows .now) (a .individuals) (SupportedBy (a .steps) (a .net .now) (a .ends .now) (a .count) (a .rows .now) (a .j) (a .i)) (a .table .now) (λ h. absurd (omega (arith, h, c .before .if1 .taken, c .if2 .taken, ap length (c .before .before .before .between .ensures), ap length (c .before .before .between2 .ensures)))),
+      s .pre .1 .1 .0,
+    )
 
 revise-requires : tie.Need-revise-requires
-revise-requires c κs = let s = c .before .before .before .before .before .before .before .before .before .before in let a = s .args in let w = s .pre .0 in let p = s .pre .1 .0 in ((subst (λ (x : List ℕ). AllRight (a .steps) (a .terms) x) (sym (c .before .before .before .before .between .ensures)) (w .wired .right (8 * a .j + a .i) (omega (arith, p .0, p .1, w .individuals-few))), subst (λ (x : List ℕ). AllRight (a .steps) (a .terms) x) (sym (c .before .before .before .between2 .ensures)) (w .wired .right (8 * a .i + a .j) (omega (arith, p .0, p .1, w .individuals-few))), subst (λ (x : List ℕ). constraintCount x ≤ 64) (sym (c .before .before .before .before .between .ensures)) (constraints-few (a .net .now) (a .ends .now) (w .wired .laid) (8 * a .j + a .i) (omega (arith, p .0, p .1, w .individuals-few))), subst (λ (x : List ℕ). constraintCount x ≤ 64) (sym (c .before .before .before .between2 .ensures)) (constraints-few (a .net .now) (a .ends .now) (w .wired .laid) (8 * a .i + a .j) (omega (arith, p .0, p .1, w .individuals-few))), w .wired .few), ((p .0, p .1, w .individuals-few, p .2, w .candidates-few), (p .3, w .rows-long, p .4, s .pre .1 .1 .0, s .pre .1 .1 .1)))
+revise-requires c κs =
+    let s = c .before .before .before .before .before .before .before .before .before .before in
+    let a = s .args in
+    let w = s .pre .0 in
+    let p = s .pre .1 .0 in (
+      (subst (λ (x : List ℕ). AllRight (a .steps) (a .terms) x) (sym (c .before .before .before .before .between .ensures)) (w .wired .right (8 * a .j + a .i) (omega (arith, p .0, p .1, w .individuals-few))), subst (λ (x : List ℕ). AllRight (a .steps) (a .terms) x) (sym (c .before .before .before .between2 .ensures)) (w .wired .right (8 * a .i + a .j) (omega (arith, p .0, p .1, w .individuals-few))), subst (λ (x : List ℕ). constraintCount x ≤ 64) (sym (c .before .before .before .before .between .ensures)) (constraints-few (a .net .now) (a .ends .now) (w .wired .laid) (8 * a .j + a .i) (omega (arith, p .0, p .1, w .individuals-few))), subst (λ (x : List ℕ). constraintCount x ≤ 64) (sym (c .before .before .before .between2 .ensures)) (constraints-few (a .net .now) (a .ends .now) (w .wired .laid) (8 * a .i + a .j) (omega (arith, p .0, p .1, w .individuals-few))), w .wired .few),
+      ((p .0, p .1, w .individuals-few, p .2, w .candidates-few), (p .3, w .rows-long, p .4, s .pre .1 .1 .0, s .pre .1 .1 .1)),
+    )
 
 same-length : tie.Need-same-length
 same-length c = c .before .before .before .before .before .revise .kept .1 .1 .1 .1 .1 .1 .1 .0
@@ -34,10 +58,22 @@ same-length-2 : tie.Need-same-length-2
 same-length-2 c = c .before .before .before .before .before .revise .kept .1 .1 .1 .1 .1 .1 .1 .1 .0
 
 returns-2 : tie.Need-returns-2
-returns-2 c = let s = c .before .before .before .before .before .before .before .before .before .before .before .before .before .before .before .before in let a = s .args in let w = s .pre .0 in let p = s .pre .1 .0 in (revised-not (a .steps) (a .net .now) (a .ends .now) (a .count) (a .rows .now) (a .individuals) (a .j) (a .i) (p .0) (p .1) (p .2) (w .candidates-few) _ _ (c .before .before .before .before .before .revise .result) (a .table .now) _ (c .before .before .before .before .before .before .before .before .before .before .between .ensures) (c .before .before .before .before .before .before .before .before .before .between2 .ensures) (not-true (c .before .before .before .before .before .revise .result) (c .if3 .taken)) (c .before .before .before .before .before .revise .ensures .0), c .before .before .before .before .before .revise .ensures .1)
+returns-2 c =
+    let s = c .before .before .before .before .before .before .before .before .before .before .before .before .before .before .before .before in
+    let a = s .args in
+    let w = s .pre .0 in
+    let p = s .pre .1 .0 in (
+      revised-not (a .steps) (a .net .now) (a .ends .now) (a .count) (a .rows .now) (a .individuals) (a .j) (a .i) (p .0) (p .1) (p .2) (w .candidates-few) _ _ (c .before .before .before .before .before .revise .result) (a .table .now) _ (c .before .before .before .before .before .before .before .before .before .before .between .ensures) (c .before .before .before .before .before .before .before .before .before .between2 .ensures) (not-true (c .before .before .before .before .before .revise .result) (c .if3 .taken)) (c .before .before .before .before .before .revise .ensures .0),
+      c .before .before .before .before .before .revise .ensures .1,
+    )
 
 note-gaps-requires : tie.Need-note-gaps-requires
-note-gaps-requires c κs = let s = c .before .before .before .before .before .before .before .before .before .before .before .before .before .before .before .before .before in let a = s .args in let w = s .pre .0 in let p = s .pre .1 .0 in (w .candidates-few, omega (arith, p .0, w .individuals-few), omega (arith, c .before .before .before .before .before .before .revise .kept .1 .1 .1 .1 .1 .1 .1 .0, p .3))
+note-gaps-requires c κs =
+    let s = c .before .before .before .before .before .before .before .before .before .before .before .before .before .before .before .before .before in
+    let a = s .args in
+    let w = s .pre .0 in
+    let p = s .pre .1 .0 in
+    (w .candidates-few, omega (arith, p .0, w .individuals-few), omega (arith, c .before .before .before .before .before .before .revise .kept .1 .1 .1 .1 .1 .1 .1 .0, p .3))
 
 same-length-3 : tie.Need-same-length-3
 same-length-3 c = c .before .before .note-gaps .kept .0 ∙ c .before .before .before .before .before .before .before .before .before .revise .kept .1 .1 .1 .1 .1 .1 .1 .0
@@ -46,7 +82,14 @@ same-length-4 : tie.Need-same-length-4
 same-length-4 c = c .before .before .before .before .before .before .before .before .before .revise .kept .1 .1 .1 .1 .1 .1 .1 .1 .0
 
 returns-3 : tie.Need-returns-3
-returns-3 c = let s = c .before .before .before .before .before .before .before .before .before .before .before .before .before .before .before .before .before .before .before .before in let a = s .args in let w = s .pre .0 in let p = s .pre .1 .0 in (revised-noted (a .steps) (a .net .now) (a .ends .now) (a .count) (a .rows .now) (a .individuals) (a .j) (a .i) (p .0) (p .1) (p .2) (w .candidates-few) _ _ (c .before .before .before .before .before .before .before .before .before .revise .result) (a .table .now) _ _ (c .before .before .before .before .before .before .before .before .before .before .before .before .before .before .between .ensures) (c .before .before .before .before .before .before .before .before .before .before .before .before .before .between2 .ensures) (not-false (c .before .before .before .before .before .before .before .before .before .revise .result) (c .before .before .before .before .if3 .left)) (c .before .before .before .before .before .before .before .before .before .revise .ensures .0) (c .before .before .note-gaps .ensures .same), gaps-noted (a .j) (a .individuals) (a .count) _ _ (w .candidates-few) (c .before .before .before .before .before .before .before .before .before .revise .ensures .1) (c .before .before .note-gaps .ensures))
+returns-3 c =
+    let s = c .before .before .before .before .before .before .before .before .before .before .before .before .before .before .before .before .before .before .before .before in
+    let a = s .args in
+    let w = s .pre .0 in
+    let p = s .pre .1 .0 in (
+      revised-noted (a .steps) (a .net .now) (a .ends .now) (a .count) (a .rows .now) (a .individuals) (a .j) (a .i) (p .0) (p .1) (p .2) (w .candidates-few) _ _ (c .before .before .before .before .before .before .before .before .before .revise .result) (a .table .now) _ _ (c .before .before .before .before .before .before .before .before .before .before .before .before .before .before .between .ensures) (c .before .before .before .before .before .before .before .before .before .before .before .before .before .between2 .ensures) (not-false (c .before .before .before .before .before .before .before .before .before .revise .result) (c .before .before .before .before .if3 .left)) (c .before .before .before .before .before .before .before .before .before .revise .ensures .0) (c .before .before .note-gaps .ensures .same),
+      gaps-noted (a .j) (a .individuals) (a .count) _ _ (w .candidates-few) (c .before .before .before .before .before .before .before .before .before .revise .ensures .1) (c .before .before .note-gaps .ensures),
+    )
 
 pub revise-by-spec : {M : Type 1} → statement M
 revise-by-spec =

@@ -24,7 +24,12 @@ loop-holds : tie.Need-loop-holds Inv-loop μ-loop
 loop-holds c = λ x l h. absurd (omega arith)
 
 leap-requires : tie.Need-leap-requires Inv-loop μ-loop
-leap-requires c κs = let s = c .before .before .before .before .before in let a = s .args in let p = s .pre .0 in let l = c .before .loop in (p .0, omega (arith, c .loop-test .taken, p .1), p .2, p .4 (l .d) (omega arith) (c .loop-test .taken))
+leap-requires c κs =
+    let s = c .before .before .before .before .before in
+    let a = s .args in
+    let p = s .pre .0 in
+    let l = c .before .loop in
+    (p .0, omega (arith, c .loop-test .taken, p .1), p .2, p .4 (l .d) (omega arith) (c .loop-test .taken))
 
 add-d : tie.Need-add-d Inv-loop μ-loop
 add-d c = omega (arith, c .before .leap .ensures .2, c .before .before .loop-test .taken, c .before .before .before .before .before .before .before .pre .0)
@@ -39,10 +44,17 @@ row-at-requires : tie.Need-row-at-requires Inv-loop μ-loop
 row-at-requires c κs = let s = c .before .before .before .before .before .before .before in omega (arith, c .before .before .loop-test .taken, s .pre .0)
 
 inside-requires : tie.Need-inside-requires Inv-loop μ-loop
-inside-requires c κs = let s = c .before .before .before .before .before .before .before .before in let a = s .args in let l = c .before .before .before .before .loop in λ x h. rw (c .row-at .ensures, length-rowAt (a .rows .now) (l .d) (omega (arith, c .before .before .before .loop-test .taken, s .pre .0))) (s .pre .1 x h)
+inside-requires c κs =
+    let s = c .before .before .before .before .before .before .before .before in
+    let a = s .args in
+    let l = c .before .before .before .before .loop in
+    λ x h. rw (c .row-at .ensures, length-rowAt (a .rows .now) (l .d) (omega (arith, c .before .before .before .loop-test .taken, s .pre .0))) (s .pre .1 x h)
 
 returns : tie.Need-returns Inv-loop μ-loop
-returns c = let s = c .before .before .before .before .before .before .before .before .before .before in let a = s .args in record { found = λ h. (c .before .before .before .before .leap .ensures .0 (omega (arith, c .before .before .before .if1 .left)), subst (λ (v : List ℕ). Inside (a .bounds .now) v) (c .before .before .row-at .ensures) (c .before .inside .ensures .0 (c .if2 .taken))); none = λ h. absurd (omega (arith, h, c .before .before .before .before .before .loop-test .taken)) }
+returns c =
+    let s = c .before .before .before .before .before .before .before .before .before .before in
+    let a = s .args in
+    record { found = λ h. (c .before .before .before .before .leap .ensures .0 (omega (arith, c .before .before .before .if1 .left)), subst (λ (v : List ℕ). Inside (a .bounds .now) v) (c .before .before .row-at .ensures) (c .before .inside .ensures .0 (c .if2 .taken))); none = λ h. absurd (omega (arith, h, c .before .before .before .before .before .loop-test .taken)) }
 
 add-d-2 : tie.Need-add-d-2 Inv-loop μ-loop
 add-d-2 c = search needs
@@ -51,7 +63,10 @@ loop-less-2 : tie.Need-loop-less-2 Inv-loop μ-loop
 loop-less-2 c = search needs
 
 loop-again-2 : tie.Need-loop-again-2 Inv-loop μ-loop
-loop-again-2 c = let s = c .before .before .before .before .before .before .before .before .before .before in let a = s .args in below-more (λ x. a .start ≤ x → ¬ Hit (a .bounds .now) (a .table .now) (a .rows .now) (a .i) x) (c .before .before .before .before .before .before .loop .d) (c .before .before .before .before .before .before .loop .inv) (λ _ h. c .before .inside .ensures .1 (c .if2 .left) (subst (λ (v : List ℕ). Inside (a .bounds .now) v) (sym (c .before .before .row-at .ensures)) (h .1)))
+loop-again-2 c =
+    let s = c .before .before .before .before .before .before .before .before .before .before in
+    let a = s .args in
+    below-more (λ x. a .start ≤ x → ¬ Hit (a .bounds .now) (a .table .now) (a .rows .now) (a .i) x) (c .before .before .before .before .before .before .loop .d) (c .before .before .before .before .before .before .loop .inv) (λ _ h. c .before .inside .ensures .1 (c .if2 .left) (subst (λ (v : List ℕ). Inside (a .bounds .now) v) (sym (c .before .before .row-at .ensures)) (h .1)))
 
 returns-2 : tie.Need-returns-2 Inv-loop μ-loop
 returns-2 c = record { found = λ h. absurd (omega (arith, h, c .loop-test .left)); none = λ h d o l. c .before .loop .inv d (omega (arith, h)) o }

@@ -63,8 +63,11 @@ note-list-requires-2 c κs =
     let s = c .before .before .before .before .before .before .before .before .before .before .before .before .before in
     let a = s .args in
     let p = s .pre in
-    let l = c .before .before .before .before .before .before .before .before .before .loop in
-    (rw (c .before .between2 .ensures) (s .pre .0 .right (8 * l .next + a .j) (omega (arith, p .1 .0, c .before .before .before .before .before .before .before .before .loop-test .taken))), omega (arith, c .before .before .before .before .note-list .kept .1 .1 .1 .1 .0, l .inv .0, p .1 .1), omega arith)
+    let l = c .before .before .before .before .before .before .before .before .before .loop in (
+      rw (c .before .between2 .ensures) (s .pre .0 .right (8 * l .next + a .j) (omega (arith, p .1 .0, c .before .before .before .before .before .before .before .before .loop-test .taken))),
+      omega (arith, c .before .before .before .before .note-list .kept .1 .1 .1 .1 .0, l .inv .0, p .1 .1),
+      omega arith,
+    )
 
 loop-less-2 : tie.Need-loop-less-2 Inv-loop μ-loop
 loop-less-2 c = search needs
@@ -76,8 +79,11 @@ loop-again-2 c =
     let p = s .pre in
     let l = c .before .before .before .before .before .before .before .before .before .before .before .before .loop in
     let t = c .before .before .before .before .before .before .before .note-list in
-    let u = c .before .before .note-list2 in
-    (u .kept .1 .1 .1 .1 .0 ∙ t .kept .1 .1 .1 .1 .0 ∙ l .inv .0, omega (arith, c .before .before .before .before .before .before .before .before .before .before .before .loop-test .taken), read-other (a .net .now) (a .ends .now) (a .j) (l .next) (l .seen) (t .last .1 .1 .1 .1 .0) (u .last .1 .1 .1 .1 .0) _ _ (c .before .before .before .before .before .before .before .before .before .between .ensures) (c .before .before .before .before .between2 .ensures) (t .ensures .0) (u .ensures .0) (l .inv .2) (t .ensures .1) (u .ensures .1))
+    let u = c .before .before .note-list2 in (
+      u .kept .1 .1 .1 .1 .0 ∙ t .kept .1 .1 .1 .1 .0 ∙ l .inv .0,
+      omega (arith, c .before .before .before .before .before .before .before .before .before .before .before .loop-test .taken),
+      read-other (a .net .now) (a .ends .now) (a .j) (l .next) (l .seen) (t .last .1 .1 .1 .1 .0) (u .last .1 .1 .1 .1 .0) _ _ (c .before .before .before .before .before .before .before .before .before .between .ensures) (c .before .before .before .before .between2 .ensures) (t .ensures .0) (u .ensures .0) (l .inv .2) (t .ensures .1) (u .ensures .1),
+    )
 
 same-length : tie.Need-same-length Inv-loop μ-loop
 same-length c = c .before .loop .inv .0

@@ -57,8 +57,10 @@ matched-requires c κs =
     let s = c .before .before .before .before .before .before .before .before .before in
     let a = s .args in
     let p = s .pre .0 in
-    let l = c .before .before .before .before .loop in
-    ((p .0, omega (arith, l .inv .1, p .2), omega (arith, c .before .before .before .loop-test .taken, p .4), p .5), kept-le (a .list .now) (a .rows .now) (a .j) (a .count) (a .table .now) (l .table) (l .memory) (l .next) (l .inv .3) (omega (arith, l .inv .2, p .4)))
+    let l = c .before .before .before .before .loop in (
+      (p .0, omega (arith, l .inv .1, p .2), omega (arith, c .before .before .before .loop-test .taken, p .4), p .5),
+      kept-le (a .list .now) (a .rows .now) (a .j) (a .count) (a .table .now) (l .table) (l .memory) (l .next) (l .inv .3) (omega (arith, l .inv .2, p .4)),
+    )
 
 loop-less-2 : tie.Need-loop-less-2 Inv-loop μ-loop
 loop-less-2 c = search needs
@@ -69,8 +71,12 @@ loop-again-2 c =
     let a = s .args in
     let p = s .pre .0 in
     let l = c .before .before .before .before .before .before .before .before .loop in
-    let t = c .before .before .before .matched in
-    (l .inv .0, t .kept .1 .1 .0 ∙ l .inv .1, omega (arith, c .before .before .before .before .before .before .before .loop-test .taken), thinning-new (a .list .now) (a .rows .now) (a .j) (a .count) (a .table .now) (l .table) (l .memory) (l .next) (l .inv .3) _ (c .before .before .before .before .before .before .before .loop-test .taken) (c .before .before .before .before .before .if1 .left) (matched-by (a .list .now) (a .rows .now) (l .next) (l .memory) _ (t .result) _ (not-true (t .result) (c .if2 .taken)) (t .ensures)))
+    let t = c .before .before .before .matched in (
+      l .inv .0,
+      t .kept .1 .1 .0 ∙ l .inv .1,
+      omega (arith, c .before .before .before .before .before .before .before .loop-test .taken),
+      thinning-new (a .list .now) (a .rows .now) (a .j) (a .count) (a .table .now) (l .table) (l .memory) (l .next) (l .inv .3) _ (c .before .before .before .before .before .before .before .loop-test .taken) (c .before .before .before .before .before .if1 .left) (matched-by (a .list .now) (a .rows .now) (l .next) (l .memory) _ (t .result) _ (not-true (t .result) (c .if2 .taken)) (t .ensures)),
+    )
 
 mul-table : tie.Need-mul-table Inv-loop μ-loop
 mul-table c = search needs
@@ -95,8 +101,12 @@ loop-again-3 c =
     let a = s .args in
     let p = s .pre .0 in
     let l = c .before .before .before .before .before .before .before .before .loop in
-    let t = c .before .before .before .matched in
-    (length-set (l .table) _ 0 ∙ l .inv .0, t .kept .1 .1 .0 ∙ l .inv .1, omega (arith, c .before .before .before .before .before .before .before .loop-test .taken), thinning-gone (a .list .now) (a .rows .now) (a .j) (a .count) (a .table .now) (l .table) (l .memory) (l .next) (l .inv .3) _ (c .before .before .before .before .before .before .before .loop-test .taken) (p .4) (omega (arith, l .inv .0, c .before .before .before .before .before .before .before .loop-test .taken, p .1, p .3, p .4)) (matched-by (a .list .now) (a .rows .now) (l .next) (l .memory) _ (t .result) _ (not-false (t .result) (c .if2 .left)) (t .ensures)))
+    let t = c .before .before .before .matched in (
+      length-set (l .table) _ 0 ∙ l .inv .0,
+      t .kept .1 .1 .0 ∙ l .inv .1,
+      omega (arith, c .before .before .before .before .before .before .before .loop-test .taken),
+      thinning-gone (a .list .now) (a .rows .now) (a .j) (a .count) (a .table .now) (l .table) (l .memory) (l .next) (l .inv .3) _ (c .before .before .before .before .before .before .before .loop-test .taken) (p .4) (omega (arith, l .inv .0, c .before .before .before .before .before .before .before .loop-test .taken, p .1, p .3, p .4)) (matched-by (a .list .now) (a .rows .now) (l .next) (l .memory) _ (t .result) _ (not-false (t .result) (c .if2 .left)) (t .ensures)),
+    )
 
 same-length : tie.Need-same-length Inv-loop μ-loop
 same-length c = c .before .loop .inv .0

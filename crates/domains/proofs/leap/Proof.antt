@@ -27,7 +27,9 @@ sub-result : tie.Need-sub-result
 sub-result c = search needs
 
 returns-3 : tie.Need-returns-3
-returns-3 c = let a = c .before .before .before .before .before .args in leap-on (a .table .now) (a .j) (a .c) (c .before .before .wide .result) (c .before .before .wide .ensures .0) (c .before .before .wide .ensures .1) (c .before .before .before .before .before .pre .3) (c .before .if1 .left) (c .if2 .left)
+returns-3 c =
+    let a = c .before .before .before .before .before .args in
+    leap-on (a .table .now) (a .j) (a .c) (c .before .before .wide .result) (c .before .before .wide .ensures .0) (c .before .before .wide .ensures .1) (c .before .before .before .before .before .pre .3) (c .before .if1 .left) (c .if2 .left)
 
 pub leap-spec : {M : Type 1} → statement M
 leap-spec =

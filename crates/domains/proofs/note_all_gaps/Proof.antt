@@ -40,8 +40,12 @@ loop-again c =
     let s = c .before .before .before .before .before .before .before in
     let a = s .args in
     let l = c .before .before .before .before .before .loop in
-    let t = c .before .before .note-gaps in
-    (t .kept .0 ∙ l .inv .0, omega (arith, c .before .before .before .before .loop-test .taken), same-then (a .table .now) (l .table) (t .last .0) (l .inv .2) (t .ensures .same), gaps-more (l .j) (a .count) (l .table) (t .last .0) (s .pre .0) (l .inv .3) (t .ensures))
+    let t = c .before .before .note-gaps in (
+      t .kept .0 ∙ l .inv .0,
+      omega (arith, c .before .before .before .before .loop-test .taken),
+      same-then (a .table .now) (l .table) (t .last .0) (l .inv .2) (t .ensures .same),
+      gaps-more (l .j) (a .count) (l .table) (t .last .0) (s .pre .0) (l .inv .3) (t .ensures),
+    )
 
 same-length : tie.Need-same-length Inv-loop μ-loop
 same-length c = c .before .loop .inv .0

@@ -80,8 +80,11 @@ loop-again-2 c =
     let h = c .before .before .before .loop-test .taken in
     let e : l .left ≡ l .left - 1 + 1 = omega (arith, h) in
     let w : Noting (a .j) (l .left - 1 + 1) (l .gap) (a .count) (a .table .now) (l .table) = subst (λ (x : ℕ). Noting (a .j) x (l .gap) (a .count) (a .table .now) (l .table)) e (l .inv .2) in
-    let g = c .longer in
-    (length-set (l .table) _ _ ∙ l .inv .0, omega (arith, l .inv .1), noting-off (a .j) (l .left - 1) (l .gap) (a .count) (a .table .now) (l .table) w (g .result) (omega (arith, l .inv .1, h, s .pre)) (omega (arith, l .inv .0, l .inv .1, h, s .pre)) (c .before .if1 .left) (g .ensures .1) (g .ensures .0))
+    let g = c .longer in (
+      length-set (l .table) _ _ ∙ l .inv .0,
+      omega (arith, l .inv .1),
+      noting-off (a .j) (l .left - 1) (l .gap) (a .count) (a .table .now) (l .table) w (g .result) (omega (arith, l .inv .1, h, s .pre)) (omega (arith, l .inv .0, l .inv .1, h, s .pre)) (c .before .if1 .left) (g .ensures .1) (g .ensures .0),
+    )
 
 same-length : tie.Need-same-length Inv-loop μ-loop
 same-length c = c .before .loop .inv .0

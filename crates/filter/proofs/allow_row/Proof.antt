@@ -44,8 +44,11 @@ loop-less c = search needs
 loop-again : tie.Need-loop-again Inv-loop μ-loop
 loop-again c =
     let s = c .before .before .before .before .before .before .before .before in
-    let a = s .args in
-    (omega arith, length-set (c .before .before .loop .table) (16384 * c .before .before .loop .j + a .c) (c .admitted .result) ∙ c .before .before .loop .inv .1, column-turn (a .steps) (a .memberships .now) (a .net .now) (a .ends .now) (a .row .now) (a .c) (s .pre .1 .1 .2) (a .table .now) (c .before .before .loop .j) (c .before .before .loop .table) (c .admitted .result) (omega (arith, c .before .before .loop .inv .1, s .pre .1 .1)) (c .admitted .ensures) (c .before .before .loop .inv .2))
+    let a = s .args in (
+      omega arith,
+      length-set (c .before .before .loop .table) (16384 * c .before .before .loop .j + a .c) (c .admitted .result) ∙ c .before .before .loop .inv .1,
+      column-turn (a .steps) (a .memberships .now) (a .net .now) (a .ends .now) (a .row .now) (a .c) (s .pre .1 .1 .2) (a .table .now) (c .before .before .loop .j) (c .before .before .loop .table) (c .admitted .result) (omega (arith, c .before .before .loop .inv .1, s .pre .1 .1)) (c .admitted .ensures) (c .before .before .loop .inv .2),
+    )
 
 same-length : tie.Need-same-length Inv-loop μ-loop
 same-length c = c .before .loop .inv .1

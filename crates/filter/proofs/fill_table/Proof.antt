@@ -37,8 +37,11 @@ loop-again : tie.Need-loop-again Inv-loop μ-loop
 loop-again c =
     let s = c .before .before .before .before .before .before .before .before .before .before in
     let a = s .args in
-    let l = c .before .before .before .loop in
-    (omega arith, l .inv .1, filtered-off (a .steps) (a .memberships .now) (a .net .now) (a .ends .now) (a .marks .now) (a .rows .now) (a .individuals) (l .entered) (omega (arith, c .before .before .loop-test .taken, s .pre .1 .0 .candidates-few)) (l .table) (c .if1 .taken) (l .inv .2))
+    let l = c .before .before .before .loop in (
+      omega arith,
+      l .inv .1,
+      filtered-off (a .steps) (a .memberships .now) (a .net .now) (a .ends .now) (a .marks .now) (a .rows .now) (a .individuals) (l .entered) (omega (arith, c .before .before .loop-test .taken, s .pre .1 .0 .candidates-few)) (l .table) (c .if1 .taken) (l .inv .2),
+    )
 
 row-at-requires : tie.Need-row-at-requires Inv-loop μ-loop
 row-at-requires c κs =
@@ -62,8 +65,11 @@ loop-again-2 : tie.Need-loop-again-2 Inv-loop μ-loop
 loop-again-2 c = let s = c .before .before .before .before .before .before .before .before .before .before .before .before .before .before .before in
     let a = s .args in
     let l = c .before .before .before .before .before .before .before .before .loop in
-    let f = c .before .before .allow-row in
-    (omega arith, f .kept .1 .1 .1 .1 .1 .1 .1 .1 .0 ∙ l .inv .1, filtered-on (a .steps) (a .memberships .now) (a .net .now) (a .ends .now) (a .marks .now) (a .rows .now) (a .individuals) (l .entered) (omega (arith, c .before .before .before .before .before .before .before .loop-test .taken, s .pre .1 .0 .candidates-few)) (l .table) (f .last .1 .1 .1 .1 .1 .1 .1 .1 .0) _ (c .before .before .before .before .row-at .ensures) (c .before .before .before .before .before .if1 .left) (f .ensures) (l .inv .2))
+    let f = c .before .before .allow-row in (
+      omega arith,
+      f .kept .1 .1 .1 .1 .1 .1 .1 .1 .0 ∙ l .inv .1,
+      filtered-on (a .steps) (a .memberships .now) (a .net .now) (a .ends .now) (a .marks .now) (a .rows .now) (a .individuals) (l .entered) (omega (arith, c .before .before .before .before .before .before .before .loop-test .taken, s .pre .1 .0 .candidates-few)) (l .table) (f .last .1 .1 .1 .1 .1 .1 .1 .1 .0) _ (c .before .before .before .before .row-at .ensures) (c .before .before .before .before .before .if1 .left) (f .ensures) (l .inv .2),
+    )
 
 same-length : tie.Need-same-length Inv-loop μ-loop
 same-length c = c .before .loop .inv .1

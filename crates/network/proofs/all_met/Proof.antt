@@ -25,10 +25,16 @@ constraint-at-requires : tie.Need-constraint-at-requires Inv-loop μ-loop
 constraint-at-requires c κs = search needs
 
 met-requires : tie.Need-met-requires Inv-loop μ-loop
-met-requires c κs = let s = c .before .before .before .before .before .before in let w = s .pre .0 (c .before .before .loop .y) (omega arith) in rw (c .constraint-at .ensures) (w .level-le, omega (arith, w .own-lt), omega (arith, w .child-lt))
+met-requires c κs =
+    let s = c .before .before .before .before .before .before in
+    let w = s .pre .0 (c .before .before .loop .y) (omega arith) in
+    rw (c .constraint-at .ensures) (w .level-le, omega (arith, w .own-lt), omega (arith, w .child-lt))
 
 returns : tie.Need-returns Inv-loop μ-loop
-returns c = let s = c .before .before .before .before .before .before .before .before in let t = subst (λ (k : Constraint). Tells (c .before .met .result) (Met (s .args .steps) k (s .args .source .now) (s .args .target .now))) (c .before .before .constraint-at .ensures) (c .before .met .ensures) in tells-no (λ h. told-no _ t (c .if1 .taken) (h (c .before .before .before .before .loop .y) (omega arith)))
+returns c =
+    let s = c .before .before .before .before .before .before .before .before in
+    let t = subst (λ (k : Constraint). Tells (c .before .met .result) (Met (s .args .steps) k (s .args .source .now) (s .args .target .now))) (c .before .before .constraint-at .ensures) (c .before .met .ensures) in
+    tells-no (λ h. told-no _ t (c .if1 .taken) (h (c .before .before .before .before .loop .y) (omega arith)))
 
 add-y : tie.Need-add-y Inv-loop μ-loop
 add-y c = search needs
@@ -37,7 +43,10 @@ loop-less : tie.Need-loop-less Inv-loop μ-loop
 loop-less c = search needs
 
 loop-again : tie.Need-loop-again Inv-loop μ-loop
-loop-again c = let s = c .before .before .before .before .before .before .before .before in let t = subst (λ (k : Constraint). Tells (c .before .met .result) (Met (s .args .steps) k (s .args .source .now) (s .args .target .now))) (c .before .before .constraint-at .ensures) (c .before .met .ensures) in (omega arith, below-more _ (c .before .before .before .before .loop .y) (c .before .before .before .before .loop .inv .1) (told-yes _ t (c .if1 .left)))
+loop-again c =
+    let s = c .before .before .before .before .before .before .before .before in
+    let t = subst (λ (k : Constraint). Tells (c .before .met .result) (Met (s .args .steps) k (s .args .source .now) (s .args .target .now))) (c .before .before .constraint-at .ensures) (c .before .met .ensures) in
+    (omega arith, below-more _ (c .before .before .before .before .loop .y) (c .before .before .before .before .loop .inv .1) (told-yes _ t (c .if1 .left)))
 
 returns-2 : tie.Need-returns-2 Inv-loop μ-loop
 returns-2 c = tells-yes (λ z l. c .before .loop .inv .1 z (omega arith))

@@ -40,13 +40,25 @@ mul-end-2 : tie.Need-mul-end-2
 mul-end-2 c = let s = c .before .before in omega (arith, c .shared-slice-known2 .given (8 * s .args .p + s .args .q + 1))
 
 sub-result : tie.Need-sub-result
-sub-result c = let s = c .before .before in let x = 8 * s .args .p + s .args .q in let w = s .pre .3 x (omega (arith, s .pre .0, s .pre .1)) in omega (arith, w .0, w .1)
+sub-result c =
+    let s = c .before .before in
+    let x = 8 * s .args .p + s .args .q in
+    let w = s .pre .3 x (omega (arith, s .pre .0, s .pre .1)) in
+    omega (arith, w .0, w .1)
 
 part-result-start : tie.Need-part-result-start
-part-result-start c = let s = c .before .before in let x = 8 * s .args .p + s .args .q in let w = s .pre .3 x (omega (arith, s .pre .0, s .pre .1)) in omega (arith, w .0, w .1)
+part-result-start c =
+    let s = c .before .before in
+    let x = 8 * s .args .p + s .args .q in
+    let w = s .pre .3 x (omega (arith, s .pre .0, s .pre .1)) in
+    omega (arith, w .0, w .1)
 
 part-result-end : tie.Need-part-result-end
-part-result-end c = let s = c .before .before in let x = 8 * s .args .p + s .args .q in let w = s .pre .3 x (omega (arith, s .pre .0, s .pre .1)) in omega (arith, w .0, w .1)
+part-result-end c =
+    let s = c .before .before in
+    let x = 8 * s .args .p + s .args .q in
+    let w = s .pre .3 x (omega (arith, s .pre .0, s .pre .1)) in
+    omega (arith, w .0, w .1)
 
 returns : tie.Need-returns
 returns c = search needs

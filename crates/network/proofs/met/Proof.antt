@@ -22,13 +22,17 @@ some-allows-requires : tie.Need-some-allows-requires
 some-allows-requires c κs = search needs
 
 returns : tie.Need-returns
-returns c = let s = c .before .before .before .before .before .before .before .before .before in tells-some (s .args .steps) (s .args .k) (s .args .source .now) (s .args .target .now) (c .before .before .before .before .before .before .wide .result) (c .before .before .before .before .wide2 .result) (c .before .before .before .before .before .before .wide .ensures .0) (c .before .before .before .before .wide2 .ensures .0) _ (c .before .if1 .taken) (c .some-allows .ensures)
+returns c =
+    let s = c .before .before .before .before .before .before .before .before .before in
+    tells-some (s .args .steps) (s .args .k) (s .args .source .now) (s .args .target .now) (c .before .before .before .before .before .before .wide .result) (c .before .before .before .before .wide2 .result) (c .before .before .before .before .before .before .wide .ensures .0) (c .before .before .before .before .wide2 .ensures .0) _ (c .before .if1 .taken) (c .some-allows .ensures)
 
 all-allows-requires : tie.Need-all-allows-requires
 all-allows-requires c κs = search needs
 
 returns-2 : tie.Need-returns-2
-returns-2 c = let s = c .before .before .before .before .before .before .before .before .before .before .before in tells-all (s .args .steps) (s .args .k) (s .args .source .now) (s .args .target .now) (c .before .before .before .before .before .before .before .before .wide .result) (c .before .before .before .before .before .before .wide2 .result) (c .before .before .before .before .before .before .before .before .wide .ensures .0) (c .before .before .before .before .before .before .wide2 .ensures .0) _ (c .before .if2 .taken) (c .all-allows .ensures)
+returns-2 c =
+    let s = c .before .before .before .before .before .before .before .before .before .before .before in
+    tells-all (s .args .steps) (s .args .k) (s .args .source .now) (s .args .target .now) (c .before .before .before .before .before .before .before .before .wide .result) (c .before .before .before .before .before .before .wide2 .result) (c .before .before .before .before .before .before .before .before .wide .ensures .0) (c .before .before .before .before .before .before .wide2 .ensures .0) _ (c .before .if2 .taken) (c .all-allows .ensures)
 
 returns-3 : tie.Need-returns-3
 returns-3 c = tells-yes (λ e. absurd (c .before .before .if1 .left e), λ e. absurd (c .if2 .left e))

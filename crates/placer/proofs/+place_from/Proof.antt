@@ -47,8 +47,10 @@ place-from-returns : (t : ℕ) → place-from-lts.Need-returns (
 place-from-returns t c =
     let s = c .before .before .before .before .before .before in
     let a = s .args in
-    let q = take (a .k) (a .seats .now) in
-    (refl, placed-true true (take (a .individuals - a .k) (drop (a .k) (a .seats .now))) refl ∙ no-one-left (a .steps) (a .net .now) (a .ends .now) (a .rows .now) (a .table .now) (a .count) (a .individuals) (a .k) q (drop (a .k) (a .seats .now)) (c .if1 .taken))
+    let q = take (a .k) (a .seats .now) in (
+      refl,
+      placed-true true (take (a .individuals - a .k) (drop (a .k) (a .seats .now))) refl ∙ no-one-left (a .steps) (a .net .now) (a .ends .now) (a .rows .now) (a .table .now) (a .count) (a .individuals) (a .k) q (drop (a .k) (a .seats .now)) (c .if1 .taken),
+    )
 
 place-from-loop-holds : (t : ℕ) → place-from-lts.Need-loop-holds (
   next-fit-reads.Asked,
@@ -94,8 +96,10 @@ place-from-returns-2 t c =
     let s = c .before .before .before .before .before .before .before .before .before .before .before in
     let a = s .args in
     let q = take (a .k) (a .seats .now) in
-    let l = c .before .before .before .before .loop in
-    (l .inv .1, placed-false false (take (a .individuals - a .k) (drop (a .k) (l .seats))) refl ∙ turn-none (a .steps) (a .net .now) (a .ends .now) (a .rows .now) (a .table .now) (a .count) (a .individuals) (a .k) q (walkOf (a .steps) (a .net .now) (a .ends .now) (a .rows .now) (a .table .now) (a .count) (a .individuals - a .k) q) (l .next) (l .inv .3) (l .seats) (omega (arith, l .inv .0, l .inv .2, s .pre .1 .1 .1)) (l .inv .1) (c .before .next-fit .result) (c .before .next-fit .ensures) (c .if2 .taken))
+    let l = c .before .before .before .before .loop in (
+      l .inv .1,
+      placed-false false (take (a .individuals - a .k) (drop (a .k) (l .seats))) refl ∙ turn-none (a .steps) (a .net .now) (a .ends .now) (a .rows .now) (a .table .now) (a .count) (a .individuals) (a .k) q (walkOf (a .steps) (a .net .now) (a .ends .now) (a .rows .now) (a .table .now) (a .count) (a .individuals - a .k) q) (l .next) (l .inv .3) (l .seats) (omega (arith, l .inv .0, l .inv .2, s .pre .1 .1 .1)) (l .inv .1) (c .before .next-fit .result) (c .before .next-fit .ensures) (c .if2 .taken),
+    )
 
 place-from-add-next : (t : ℕ) → place-from-lts.Need-add-next (
   next-fit-reads.Asked,
@@ -152,8 +156,10 @@ place-from-place-from-requires t c κs =
     let s = c .before .before .before .before .before .before .before .before .before .before .before .before in
     let a = s .args in
     let q = take (a .k) (a .seats .now) in
-    let l = c .before .before .before .before .before .loop in
-    (omega (arith, s .pre .0, l .inv .2), (s .pre .1 .0, (omega (arith, l .inv .2), omega (arith, length-set (l .seats) (a .k) (c .before .before .next-fit .result), l .inv .0, s .pre .1 .1 .1), seated-next (l .seats) (a .k) (c .before .before .next-fit .result) (omega (arith, l .inv .0, l .inv .2, s .pre .1 .1 .1)) (omega (arith, c .before .if2 .left, s .pre .1 .0 .problem .candidates-few)) (seated-same (a .seats .now) (l .seats) (a .k) (l .inv .1) (s .pre .1 .1 .2)))))
+    let l = c .before .before .before .before .before .loop in (
+      omega (arith, s .pre .0, l .inv .2),
+      (s .pre .1 .0, (omega (arith, l .inv .2), omega (arith, length-set (l .seats) (a .k) (c .before .before .next-fit .result), l .inv .0, s .pre .1 .1 .1), seated-next (l .seats) (a .k) (c .before .before .next-fit .result) (omega (arith, l .inv .0, l .inv .2, s .pre .1 .1 .1)) (omega (arith, c .before .if2 .left, s .pre .1 .0 .problem .candidates-few)) (seated-same (a .seats .now) (l .seats) (a .k) (l .inv .1) (s .pre .1 .1 .2)))),
+    )
 
 place-from-same-length-2 : (t : ℕ) → place-from-lts.Need-same-length-2 (
   next-fit-reads.Asked,
@@ -181,8 +187,10 @@ place-from-returns-3 t c =
     let q = take (a .k) (a .seats .now) in
     let l = c .before .before .before .before .before .before .before .before .before .loop in
     let p = c .before .before .before .place-from in
-    let u = p .last .1 .1 .1 .1 .1 .1 .1 .1 .0 in
-    (seats-kept (l .seats) u (a .k) (c .before .before .before .before .before .before .next-fit .result) (p .ensures .0) ∙ l .inv .1, placed-true true (take (a .individuals - a .k) (drop (a .k) u)) refl ∙ turn-found (a .steps) (a .net .now) (a .ends .now) (a .rows .now) (a .table .now) (a .count) (a .individuals) (a .k) q (walkOf (a .steps) (a .net .now) (a .ends .now) (a .rows .now) (a .table .now) (a .count) (a .individuals - a .k) q) (l .next) (l .inv .3) (l .seats) (omega (arith, l .inv .0, l .inv .2, s .pre .1 .1 .1)) (l .inv .1) (c .before .before .before .before .before .before .next-fit .result) (c .before .before .before .before .before .before .next-fit .ensures) (omega (arith, c .before .before .before .before .before .if2 .left)) u (p .kept .1 .1 .1 .1 .1 .1 .1 .1 .0 ∙ length-set (l .seats) (a .k) (c .before .before .before .before .before .before .next-fit .result)) (p .ensures .0) (l .inv .2) (sym (placed-true (p .result) _ (c .if3 .taken)) ∙ p .ensures .1))
+    let u = p .last .1 .1 .1 .1 .1 .1 .1 .1 .0 in (
+      seats-kept (l .seats) u (a .k) (c .before .before .before .before .before .before .next-fit .result) (p .ensures .0) ∙ l .inv .1,
+      placed-true true (take (a .individuals - a .k) (drop (a .k) u)) refl ∙ turn-found (a .steps) (a .net .now) (a .ends .now) (a .rows .now) (a .table .now) (a .count) (a .individuals) (a .k) q (walkOf (a .steps) (a .net .now) (a .ends .now) (a .rows .now) (a .table .now) (a .count) (a .individuals - a .k) q) (l .next) (l .inv .3) (l .seats) (omega (arith, l .inv .0, l .inv .2, s .pre .1 .1 .1)) (l .inv .1) (c .before .before .before .before .before .before .next-fit .result) (c .before .before .before .before .before .before .next-fit .ensures) (omega (arith, c .before .before .before .before .before .if2 .left)) u (p .kept .1 .1 .1 .1 .1 .1 .1 .1 .0 ∙ length-set (l .seats) (a .k) (c .before .before .before .before .before .before .next-fit .result)) (p .ensures .0) (l .inv .2) (sym (placed-true (p .result) _ (c .if3 .taken)) ∙ p .ensures .1),
+    )
 
 place-from-loop-less : (t : ℕ) → place-from-lts.Need-loop-less (
   next-fit-reads.Asked,
@@ -204,8 +212,12 @@ place-from-loop-again t c =
     let q = take (a .k) (a .seats .now) in
     let l = c .before .before .before .before .before .before .before .before .before .loop in
     let p = c .before .before .before .place-from in
-    let u = p .last .1 .1 .1 .1 .1 .1 .1 .1 .0 in
-    (p .kept .1 .1 .1 .1 .1 .1 .1 .1 .0 ∙ length-set (l .seats) (a .k) (c .before .before .before .before .before .before .next-fit .result) ∙ l .inv .0, seats-kept (l .seats) u (a .k) (c .before .before .before .before .before .before .next-fit .result) (p .ensures .0) ∙ l .inv .1, l .inv .2, turn-back (a .steps) (a .net .now) (a .ends .now) (a .rows .now) (a .table .now) (a .count) (a .individuals) (a .k) q (walkOf (a .steps) (a .net .now) (a .ends .now) (a .rows .now) (a .table .now) (a .count) (a .individuals - a .k) q) (l .next) (l .inv .3) (l .seats) (omega (arith, l .inv .0, l .inv .2, s .pre .1 .1 .1)) (l .inv .1) (c .before .before .before .before .before .before .next-fit .result) (c .before .before .before .before .before .before .next-fit .ensures) (omega (arith, c .before .before .before .before .before .if2 .left)) (sym (placed-false (p .result) _ (c .if3 .left)) ∙ p .ensures .1))
+    let u = p .last .1 .1 .1 .1 .1 .1 .1 .1 .0 in (
+      p .kept .1 .1 .1 .1 .1 .1 .1 .1 .0 ∙ length-set (l .seats) (a .k) (c .before .before .before .before .before .before .next-fit .result) ∙ l .inv .0,
+      seats-kept (l .seats) u (a .k) (c .before .before .before .before .before .before .next-fit .result) (p .ensures .0) ∙ l .inv .1,
+      l .inv .2,
+      turn-back (a .steps) (a .net .now) (a .ends .now) (a .rows .now) (a .table .now) (a .count) (a .individuals) (a .k) q (walkOf (a .steps) (a .net .now) (a .ends .now) (a .rows .now) (a .table .now) (a .count) (a .individuals - a .k) q) (l .next) (l .inv .3) (l .seats) (omega (arith, l .inv .0, l .inv .2, s .pre .1 .1 .1)) (l .inv .1) (c .before .before .before .before .before .before .next-fit .result) (c .before .before .before .before .before .before .next-fit .ensures) (omega (arith, c .before .before .before .before .before .if2 .left)) (sym (placed-false (p .result) _ (c .if3 .left)) ∙ p .ensures .1),
+    )
 
 place-from-same-length-3 : (t : ℕ) → place-from-lts.Need-same-length-3 (
   next-fit-reads.Asked,
@@ -225,8 +237,10 @@ place-from-returns-4 t c =
     let s = c .before .before .before .before .before .before .before .before in
     let a = s .args in
     let q = take (a .k) (a .seats .now) in
-    let l = c .before .loop in
-    (l .inv .1, placed-false false (take (a .individuals - a .k) (drop (a .k) (l .seats))) refl ∙ loop-end (a .steps) (a .net .now) (a .ends .now) (a .rows .now) (a .table .now) (a .count) (a .individuals) (a .k) q (walkOf (a .steps) (a .net .now) (a .ends .now) (a .rows .now) (a .table .now) (a .count) (a .individuals - a .k) q) (l .next) (l .inv .3) (omega arith))
+    let l = c .before .loop in (
+      l .inv .1,
+      placed-false false (take (a .individuals - a .k) (drop (a .k) (l .seats))) refl ∙ loop-end (a .steps) (a .net .now) (a .ends .now) (a .rows .now) (a .table .now) (a .count) (a .individuals) (a .k) q (walkOf (a .steps) (a .net .now) (a .ends .now) (a .rows .now) (a .table .now) (a .count) (a .individuals - a .k) q) (l .next) (l .inv .3) (omega arith),
+    )
 
 pub +place-from-spec : {M : Type 1} → statement M
 +place-from-spec = close μ-place-from λ t. place-from-lts.spec (

@@ -77,8 +77,10 @@ loop-again-2 c =
     let s = c .before .before .before .before .before .before .before .before .before .before .before in
     let a = s .args in
     let w = s .pre .0 in
-    let l = c .before .before .before .before .before .loop in
-    (omega (arith, l .inv .0), λ e x y. dite (decLt e (l .c)) (λ z. l .inv .1 e x z) (λ z m. let q : e ≡ l .c = omega arith in c .before .fits-seated .ensures .1 (c .if2 .left) (subst (λ (d : ℕ). FitsNext (a .steps) (a .net .now) (a .ends .now) (a .rows .now) (a .table .now) (a .seats .now) (a .k) d) q m .1)))
+    let l = c .before .before .before .before .before .loop in (
+      omega (arith, l .inv .0),
+      λ e x y. dite (decLt e (l .c)) (λ z. l .inv .1 e x z) (λ z m. let q : e ≡ l .c = omega arith in c .before .fits-seated .ensures .1 (c .if2 .left) (subst (λ (d : ℕ). FitsNext (a .steps) (a .net .now) (a .ends .now) (a .rows .now) (a .table .now) (a .seats .now) (a .k) d) q m .1)),
+    )
 
 returns-2 : tie.Need-returns-2 Inv-loop μ-loop
 returns-2 c =

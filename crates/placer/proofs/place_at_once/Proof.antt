@@ -62,8 +62,12 @@ loop-again c =
     let s = c .before .before .before .before .before .before .before .before .before .before in
     let a = s .args in
     let l = c .before .before .before .before .loop in
-    let r = c .before .next-fit .result in
-    (omega (arith, c .before .before .before .loop-test .taken), length-set (l .seats) (l .k) r ∙ l .inv .1, seated-next (l .seats) (l .k) r (omega (arith, c .before .before .before .loop-test .taken, l .inv .1, s .pre .1)) (omega (arith, c .if1 .left, s .pre .0 .problem .candidates-few)) (l .inv .2), onward-next (a .steps) (a .net .now) (a .ends .now) (a .rows .now) (a .table .now) (a .count) (a .individuals) (l .k) (l .seats) r (c .before .before .before .loop-test .taken) (omega (arith, c .before .before .before .loop-test .taken, l .inv .1, s .pre .1)) (omega (arith, c .if1 .left)) (c .before .next-fit .ensures) (l .inv .3))
+    let r = c .before .next-fit .result in (
+      omega (arith, c .before .before .before .loop-test .taken),
+      length-set (l .seats) (l .k) r ∙ l .inv .1,
+      seated-next (l .seats) (l .k) r (omega (arith, c .before .before .before .loop-test .taken, l .inv .1, s .pre .1)) (omega (arith, c .if1 .left, s .pre .0 .problem .candidates-few)) (l .inv .2),
+      onward-next (a .steps) (a .net .now) (a .ends .now) (a .rows .now) (a .table .now) (a .count) (a .individuals) (l .k) (l .seats) r (c .before .before .before .loop-test .taken) (omega (arith, c .before .before .before .loop-test .taken, l .inv .1, s .pre .1)) (omega (arith, c .if1 .left)) (c .before .next-fit .ensures) (l .inv .3),
+    )
 
 same-length-2 : tie.Need-same-length-2 Inv-loop μ-loop
 same-length-2 c = c .before .loop .inv .1

@@ -37,8 +37,11 @@ in-vain-requires : tie.Need-in-vain-requires
 in-vain-requires c κs =
     let s = c .before .before .before .before .before .before .before .before .before .before .before .before .before .before .before .before .before .before .before .before .before .before .before .before .before .before .before .before in
     let a = s .args in
-    let z = s .pre .1 .1 .1 .1 .0 in
-    (z .0, omega (arith, z .2, individuals-at-most (a .steps) (a .terms .now) (a .memberships .now) (a .links .now) (s .pre .1 .0) (s .pre .1 .1 .0)), omega (arith, c .before .before .before .fill-table .kept .1 .1 .1 .1 .1 .1 .1 .1 .1 .0, s .pre .1 .1 .1 .1 .1 .4))
+    let z = s .pre .1 .1 .1 .1 .0 in (
+      z .0,
+      omega (arith, z .2, individuals-at-most (a .steps) (a .terms .now) (a .memberships .now) (a .links .now) (s .pre .1 .0) (s .pre .1 .1 .0)),
+      omega (arith, c .before .before .before .fill-table .kept .1 .1 .1 .1 .1 .1 .1 .1 .1 .0, s .pre .1 .1 .1 .1 .1 .4),
+    )
 
 same-length : tie.Need-same-length
 same-length c = search needs

@@ -41,8 +41,10 @@ place-pruned-requires : tie.Need-place-pruned-requires
 place-pruned-requires c κs =
     let s = c .before .before .before .before .before .before .before .before .before .before .before .before .before .before .before .before .before .before .before .before .before in
     let t = c .before .before .before .before .before .before .before .before .before .before .before .before .before .before .thin in
-    let g = c .before .before .before .before .before .before .before .before .before .before .note-all-gaps in
-    (record { problem = s .pre .0; table-long = omega (arith, g .kept .0, t .kept .1 .1 .1 .1 .1 .1 .1 .0, s .pre .1 .0); gaps = g .ensures .1 }, (omega (arith, c .before .before .before .before .before .place-at-once .kept .1 .1 .1 .1 .1 .1 .1 .1 .0, s .pre .1 .1), λ j c h l e. s .pre .1 .2 j c h l (t .ensures .fewer _ (g .ensures .0 _ .0 e))))
+    let g = c .before .before .before .before .before .before .before .before .before .before .note-all-gaps in (
+      record { problem = s .pre .0; table-long = omega (arith, g .kept .0, t .kept .1 .1 .1 .1 .1 .1 .1 .0, s .pre .1 .0); gaps = g .ensures .1 },
+      (omega (arith, c .before .before .before .before .before .place-at-once .kept .1 .1 .1 .1 .1 .1 .1 .1 .0, s .pre .1 .1), λ j c h l e. s .pre .1 .2 j c h l (t .ensures .fewer _ (g .ensures .0 _ .0 e))),
+    )
 
 same-length-3 : tie.Need-same-length-3
 same-length-3 c = search needs
