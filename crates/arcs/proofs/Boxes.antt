@@ -1,70 +1,62 @@
 -- Laws of boxes: what one constraint asks as a bound, how lists of bounds grow, and the part in use as a box.
 -- Assumes nothing.
 use mathlib.Core.Path.{_≡_, refl, sym, subst, _∙_}
-use mathlib.Core.Logic.{_↔_, dite}
+use mathlib.Core.Logic.{_↔_, Iff·trans, dite}
 use mathlib.Core.List.{List}
-use Prim.Native.Nat.{ℕ, _+_, _-_, _*_, _≤_, _<_, min, max}
+use Prim.Native.Nat.{ℕ, _+_, _-_, _*_, _≤_, _<_}
 use native.Mathlib.Decide.{decLt}
 use native.Mathlib.Omega.{arith}
 use lib.ListN.{length, getD, take, drop, set, length-set, length-take}
 use lib.Seq.{getD-take, getD-set-same, getD-set-other, length-take-le}
 use borrow.Author.Count.{below-more}
+use Rattle.chain.specs.Connectives.{through, Within as WithinOf, Bounds}
+use Rattle.sections.specs.Terms.{quantifierOf}
+use Rattle.sections.proofs.Terms.{by-some, by-all}
+use Rattle.gradings.specs.Gradings.{connectivesOf}
+use Rattle.gradings.specs.declared.Logic.{Logic}
+use Rattle.grades.specs.Rows.{entry}
 use Rattle.network.specs.declared.Constraint.{Constraint}
 use Rattle.network.specs.Constraints.{constraintCount, Met, Right, OnChain}
 use Rattle.network.specs.Network.{constraintsOf, Laid}
 use Rattle.arcs.specs.declared.Bound.{Bound}
 use Rattle.arcs.specs.Boxes.{Within, boundAt, Asks, BoxOf, Narrowed}
 
--- ---- what one constraint asks; x as code has it
+-- ---- what one constraint asks
 
-module _ (N m : ℕ) (k : Constraint) (right : Right N m k) where
-  -- of the target's row, where the source has the row a
-  module _ (a : List ℕ) (x : ℕ) (own : x ≡ getD a (k .own) 0) where
-    pub target-some : k .kind ≡ 4 → x < k .level → Asks N m (Met N k a) (record { term = k .child; low = 0; high = x })
-    target-some e h = record {
-      term-lt = right .child-lt;
-      exact = λ v on. (λ w. (λ _. omega (arith, w .1), λ z. absurd (omega arith)), λ f. (omega arith, omega (arith, f .0 e)));
-    }
+-- the grades of term t up to x, or from x on
+module _ (lg : Logic) (m t x : ℕ) (in-t : t < m) (P : List ℕ → Type 0) where
+  asks-to : ((v : List ℕ) → OnChain lg m v → (entry v t ≤ x) ↔ P v) → Asks lg m P (record { term = t; low = 0; high = x })
+  asks-to f = record { term-lt = in-t; exact = λ v on. (λ w. f v on .0 (w .1), λ p. (omega arith, f v on .1 p)) }
 
-    pub target-all : k .kind ≡ 5 → N - k .level < x → Asks N m (Met N k a) (record { term = k .child; low = x; high = N })
-    target-all e h = record {
-      term-lt = right .child-lt;
-      exact = λ v on. (
-        λ w. (λ z. absurd (omega arith), λ _. omega (arith, w .0)),
-        λ f. (omega (arith, f .1 e), on (k .child) (right .child-lt)),
-      );
-    }
+  asks-from : ((v : List ℕ) → OnChain lg m v → (x ≤ entry v t) ↔ P v) → Asks lg m P (record { term = t; low = x; high = lg .steps })
+  asks-from f = record { term-lt = in-t; exact = λ v on. (λ w. f v on .0 (w .0), λ p. (f v on .1 p, on t in-t)) }
 
-    pub target-none : (k .kind ≡ 4 → k .level ≤ x) → (k .kind ≡ 5 → x ≤ N - k .level) → Asks N m (Met N k a) (record { term = k .child; low = 0; high = N })
-    target-none f g = record {
-      term-lt = right .child-lt;
-      exact = λ v on. (λ _. (λ e. omega (arith, f e), λ e. omega (arith, g e)), λ _. (omega arith, on (k .child) (right .child-lt)));
-    }
+module _ (lg : Logic) (m : ℕ) (k : Constraint) (right : Right lg m k) where
+  -- its kind's direction
+  some-way : k .kind ≡ 4 → (x y : ℕ) → (x ≤ y) ↔ WithinOf (quantifierOf (k .kind)) x y
+  some-way e x y = by-some (λ q. (x ≤ y) ↔ WithinOf q x y) (k .kind) e (λ h. h, λ h. h)
 
-  -- of the source's row, where the target has the row b
-  module _ (b : List ℕ) where
-    pub source-some : (x : ℕ) → x ≡ min (k .level) (getD b (k .child) 0) → k .kind ≡ 4
-        → Asks N m (λ v. Met N k v b) (record { term = k .own; low = x; high = N })
-    source-some x least e = record {
-      term-lt = right .own-lt;
-      exact = λ v on. (
-        λ w. (λ _. omega (arith, w .0), λ z. absurd (omega arith)),
-        λ f. (omega (arith, f .0 e), on (k .own) (right .own-lt)),
-      );
-    }
+  all-way : ¬ (k .kind ≡ 4) → (x y : ℕ) → (y ≤ x) ↔ WithinOf (quantifierOf (k .kind)) x y
+  all-way n x y = by-all (λ q. (y ≤ x) ↔ WithinOf q x y) (k .kind) (right .kinds .0) (right .kinds .1) n (λ h. h, λ h. h)
 
-    pub source-all : (x : ℕ) → x ≡ max (N - k .level) (getD b (k .child) 0) → k .kind ≡ 5
-        → Asks N m (λ v. Met N k v b) (record { term = k .own; low = 0; high = x })
-    source-all x most e = record {
-      term-lt = right .own-lt;
-      exact = λ v on. (λ w. (λ z. absurd (omega arith), λ _. omega (arith, w .1)), λ f. (omega arith, omega (arith, f .1 e)));
-    }
+  -- of the target's row, where the source has the row a: by the children that permit the link
+  module _ (a : List ℕ) (x : ℕ) (edge : Bounds (lg .steps) (connectivesOf lg) (quantifierOf (k .kind)) (k .level) (entry a (k .own)) x) where
+    permitted : (v : List ℕ) → OnChain lg m v → WithinOf (quantifierOf (k .kind)) (entry v (k .child)) x ↔ Met lg k a v
+    permitted v on = edge (entry v (k .child)) (on (k .child) (right .child-lt))
 
-    pub source-none : ¬ (k .kind ≡ 4) → ¬ (k .kind ≡ 5) → Asks N m (λ v. Met N k v b) (record { term = k .own; low = 0; high = N })
-    source-none f g = record {
-      term-lt = right .own-lt;
-      exact = λ v on. (λ _. (λ e. absurd (f e), λ e. absurd (g e)), λ _. (omega arith, on (k .own) (right .own-lt)));
-    }
+    pub target-some : k .kind ≡ 4 → Asks lg m (Met lg k a) (record { term = k .child; low = 0; high = x })
+    target-some e = asks-to lg m (k .child) x (right .child-lt) (Met lg k a) (λ v on. Iff·trans (some-way e (entry v (k .child)) x) (permitted v on))
+
+    pub target-all : ¬ (k .kind ≡ 4) → Asks lg m (Met lg k a) (record { term = k .child; low = x; high = lg .steps })
+    target-all n = asks-from lg m (k .child) x (right .child-lt) (Met lg k a) (λ v on. Iff·trans (all-way n (entry v (k .child)) x) (permitted v on))
+
+  -- of the source's row, where the target has the row b: by what the term takes
+  module _ (b : List ℕ) (x : ℕ) (taken : x ≡ through (connectivesOf lg) (quantifierOf (k .kind)) (k .level) (entry b (k .child))) where
+    pub source-some : k .kind ≡ 4 → Asks lg m (λ v. Met lg k v b) (record { term = k .own; low = x; high = lg .steps })
+    source-some e = asks-from lg m (k .own) x (right .own-lt) (λ v. Met lg k v b) (λ v on. rw (← taken) (some-way e x (entry v (k .own))))
+
+    pub source-all : ¬ (k .kind ≡ 4) → Asks lg m (λ v. Met lg k v b) (record { term = k .own; low = 0; high = x })
+    source-all n = asks-to lg m (k .own) x (right .own-lt) (λ v. Met lg k v b) (λ v on. rw (← taken) (all-way n x (entry v (k .own))))
 
 -- ---- lists of bounds
 
@@ -76,8 +68,8 @@ same-bound s t r h x l =
     let h2 = h (3 * x + 2) (omega arith) in
     cc
 
-module _ (N m : ℕ) where
-  pub narrowed-none : (P : List ℕ → Type 0) (s : List ℕ) (k : ℕ) → ((v : List ℕ) → OnChain N m v → P v) → Narrowed N m P s k s k
+module _ (lg : Logic) (m : ℕ) where
+  pub narrowed-none : (P : List ℕ → Type 0) (s : List ℕ) (k : ℕ) → ((v : List ℕ) → OnChain lg m v → P v) → Narrowed lg m P s k s k
   narrowed-none P s k f = record {
     more = omega arith;
     kept = λ z l. refl;
@@ -85,8 +77,8 @@ module _ (N m : ℕ) where
     exact = λ v on. (λ _. f v on, λ _ x l u. absurd (omega arith));
   }
 
-  pub narrowed-map : (P Q : List ℕ → Type 0) (old : List ℕ) (k : ℕ) (new : List ℕ) (r : ℕ) → ((v : List ℕ) → OnChain N m v → P v ↔ Q v)
-      → Narrowed N m P old k new r → Narrowed N m Q old k new r
+  pub narrowed-map : (P Q : List ℕ → Type 0) (old : List ℕ) (k : ℕ) (new : List ℕ) (r : ℕ) → ((v : List ℕ) → OnChain lg m v → P v ↔ Q v)
+      → Narrowed lg m P old k new r → Narrowed lg m Q old k new r
   narrowed-map P Q old k new r f w = record {
     more = w .more;
     kept = w .kept;
@@ -94,8 +86,8 @@ module _ (N m : ℕ) where
     exact = λ v on. (λ h. f v on .0 (w .exact v on .0 h), λ q. w .exact v on .1 (f v on .1 q));
   }
 
-  pub narrowed-then : (P Q : List ℕ → Type 0) (a : List ℕ) (k : ℕ) (b : List ℕ) (r : ℕ) (c : List ℕ) (t : ℕ) → Narrowed N m P a k b r
-      → Narrowed N m Q b r c t → Narrowed N m (λ v. P v × Q v) a k c t
+  pub narrowed-then : (P Q : List ℕ → Type 0) (a : List ℕ) (k : ℕ) (b : List ℕ) (r : ℕ) (c : List ℕ) (t : ℕ) → Narrowed lg m P a k b r
+      → Narrowed lg m Q b r c t → Narrowed lg m (λ v. P v × Q v) a k c t
   narrowed-then P Q a k b r c t w u = record {
     more = omega (arith, w .more, u .more);
     kept = λ z l. u .kept z (omega (arith, w .more)) ∙ w .kept z l;
@@ -117,9 +109,9 @@ module _ (N m : ℕ) where
       same x z = same-bound b c r (u .kept) x z
 
   -- the bounds for what R says of each number below y, and one more
-  pub narrowed-more : (R : ℕ → List ℕ → Type 0) (y : ℕ) (q : Bound) (a : List ℕ) (k : ℕ) (b : List ℕ) (r : ℕ) (c : List ℕ) (t : ℕ) → Asks N m (R y) q
-      → Narrowed N m (λ v. (z : ℕ) → z < y → R z v) a k b r → Narrowed N m (Within q) b r c t
-      → Narrowed N m (λ v. (z : ℕ) → z < y + 1 → R z v) a k c t
+  pub narrowed-more : (R : ℕ → List ℕ → Type 0) (y : ℕ) (q : Bound) (a : List ℕ) (k : ℕ) (b : List ℕ) (r : ℕ) (c : List ℕ) (t : ℕ) → Asks lg m (R y) q
+      → Narrowed lg m (λ v. (z : ℕ) → z < y → R z v) a k b r → Narrowed lg m (Within q) b r c t
+      → Narrowed lg m (λ v. (z : ℕ) → z < y + 1 → R z v) a k c t
   narrowed-more R y q a k b r c t asks w u =
       narrowed-map (λ v. ((z : ℕ) → z < y → R z v) × Within q v) (λ v. (z : ℕ) → z < y + 1 → R z v) a k c t
       (λ v on. (
@@ -159,8 +151,8 @@ module _ (s : List ℕ) (k : ℕ) (b : Bound) where
       let b2 : getD (putBound s k b) (3 * k + 2) 0 ≡ b .high = getD-set-same s2 (3 * k + 2) (b .high) 0 (omega arith) in
       rw (b0, b1, b2)
 
-  pub narrowed-one : (N m : ℕ) → b .term < m → 3 * k + 3 ≤ length s → Narrowed N m (Within b) s k (putBound s k b) (k + 1)
-  narrowed-one N m in-b fits = record {
+  pub narrowed-one : (lg : Logic) (m : ℕ) → b .term < m → 3 * k + 3 ≤ length s → Narrowed lg m (Within b) s k (putBound s k b) (k + 1)
+  narrowed-one lg m in-b fits = record {
     more = omega arith;
     kept = put-kept;
     terms = λ x l u. let e : x ≡ k = omega arith in subst (λ (q : Bound). q .term < m) (sym (here x e)) in-b;
@@ -174,19 +166,19 @@ module _ (s : List ℕ) (k : ℕ) (b : Bound) where
       here x e = subst (λ (y : ℕ). boundAt (putBound s k b) y ≡ b) (sym e) (put-at fits)
 
 -- one that leaves nothing of the chain out
-pub narrowed-all : (N m : ℕ) (s : List ℕ) (k : ℕ) (b : Bound) → b .term < m → b .low ≡ 0 → N ≤ b .high → Narrowed N m (Within b) s k s k
-narrowed-all N m s k b in-b low high = narrowed-none N m (Within b) s k (λ v on. (omega arith, omega (arith, on (b .term) in-b)))
+pub narrowed-all : (lg : Logic) (m : ℕ) (s : List ℕ) (k : ℕ) (b : Bound) → b .term < m → b .low ≡ 0 → lg .steps ≤ b .high → Narrowed lg m (Within b) s k s k
+narrowed-all lg m s k b in-b low high = narrowed-none lg m (Within b) s k (λ v on. (omega arith, omega (arith, on (b .term) in-b)))
 
 -- ---- the part in use is a box
 
-module _ (N m : ℕ) (P : List ℕ → Type 0) (old new : List ℕ) (r : ℕ) (w : Narrowed N m P old 0 new r) (long : 3 * r ≤ length new) where
+module _ (lg : Logic) (m : ℕ) (P : List ℕ → Type 0) (old new : List ℕ) (r : ℕ) (w : Narrowed lg m P old 0 new r) (long : 3 * r ≤ length new) where
   pub box-long : length (take (3 * r) new) ≡ 3 * r
   box-long = length-take-le (3 * r) new long
 
   box-at : (x : ℕ) → x < r → boundAt (take (3 * r) new) x ≡ boundAt new x
   box-at x l = same-bound new (take (3 * r) new) r (λ z h. getD-take (3 * r) new z 0 h) x l
 
-  pub box-of : BoxOf N m P (take (3 * r) new)
+  pub box-of : BoxOf lg m P (take (3 * r) new)
   box-of = record {
     terms = λ x l. let h : x < r = omega (arith, box-long) in subst (λ (q : Bound). q .term < m) (sym (box-at x h)) (w .terms x (omega arith) h);
     exact = λ v on. (

@@ -7,6 +7,7 @@ use mathlib.Core.List.{List}
 use Prim.Native.Nat.{ℕ, _+_, _*_, _≤_, _<_}
 use lib.ListN.{length, getD}
 use Rattle.chain.specs.Search.{rank}
+use Rattle.gradings.specs.declared.Logic.{Logic}
 use Rattle.grades.specs.Rows.{rowAt}
 use Rattle.elimination.specs.Marks.{marked?}
 use Rattle.network.specs.Network.{between}
@@ -30,9 +31,9 @@ pub record Sought (box table rows : List ℕ) (i start to r : ℕ) : Type 0 wher
   pub none : to ≤ r → (d : ℕ) → start ≤ d → d < to → ¬ Hit box table rows i d
 
 -- by the constraints from j to i, and back: c has support, or not
-pub record Tried (N : ℕ) (forth back : List ℕ) (count : ℕ) (rows table : List ℕ) (i c r : ℕ) : Type 0 where
-  pub found : r < count → Holder count rows table i (FitsBy N forth back (rowAt rows c))
-  pub none : count ≤ r → ¬ Holder count rows table i (FitsBy N forth back (rowAt rows c))
+pub record Tried (l : Logic) (forth back : List ℕ) (count : ℕ) (rows table : List ℕ) (i c r : ℕ) : Type 0 where
+  pub found : r < count → Holder count rows table i (FitsBy l forth back (rowAt rows c))
+  pub none : count ≤ r → ¬ Holder count rows table i (FitsBy l forth back (rowAt rows c))
 
 -- ---- what is left
 
@@ -46,19 +47,19 @@ Went true old new = left new < left old
 Went false old new = new ≡ old
 
 -- By the constraints from j to i, and back: the candidates below k of j that have no support by i went, if any, and nothing else did.
-pub record RevisedBy (N : ℕ) (forth back : List ℕ) (count : ℕ) (rows : List ℕ) (j i k : ℕ) (changed : Bool) (old new : List ℕ) : Type 0 where
+pub record RevisedBy (l : Logic) (forth back : List ℕ) (count : ℕ) (rows : List ℕ) (j i k : ℕ) (changed : Bool) (old new : List ℕ) : Type 0 where
   pub fewer : (x : ℕ) → getD new x 0 ≡ 1 → getD old x 0 ≡ 1
   pub others : (x : ℕ) → ((c : ℕ) → c < count → ¬ (x ≡ 16384 * j + c)) → getD new x 0 ≡ getD old x 0
-  pub gone : (c : ℕ) → c < count → Allowed old j c → ¬ Allowed new j c → ¬ Holder count rows old i (FitsBy N forth back (rowAt rows c))
+  pub gone : (c : ℕ) → c < count → Allowed old j c → ¬ Allowed new j c → ¬ Holder count rows old i (FitsBy l forth back (rowAt rows c))
   pub went : Went changed old new
-  pub held : changed ≡ false → (c : ℕ) → c < k → Allowed old j c → Holder count rows old i (FitsBy N forth back (rowAt rows c))
+  pub held : changed ≡ false → (c : ℕ) → c < k → Allowed old j c → Holder count rows old i (FitsBy l forth back (rowAt rows c))
 
-module _ (N : ℕ) (net ends : List ℕ) (count : ℕ) (rows : List ℕ) where
+module _ (l : Logic) (net ends : List ℕ) (count : ℕ) (rows : List ℕ) where
   -- each candidate of j has support by individual i, if there are constraints between the two
   abbrev pub SupportedBy : (j i : ℕ) (table : List ℕ) → Type 0
   SupportedBy j i table =
       0 < length (between net ends j i) + length (between net ends i j)
-      → (c : ℕ) → c < count → Allowed table j c → Holder count rows table i (Fits N net ends j i (rowAt rows c))
+      → (c : ℕ) → c < count → Allowed table j c → Holder count rows table i (Fits l net ends j i (rowAt rows c))
 
   -- by every other individual below k
   abbrev pub SupportedTo : (j k : ℕ) (table : List ℕ) → Type 0
@@ -75,7 +76,7 @@ module _ (N : ℕ) (net ends : List ℕ) (count : ℕ) (rows : List ℕ) where
   -- candidates were taken away, and none of a placement that is consistent
   pub record Pruned (n : ℕ) (old new : List ℕ) : Type 0 where
     pub fewer : (x : ℕ) → getD new x 0 ≡ 1 → getD old x 0 ≡ 1
-    pub keeps : (s : ℕ → ℕ) → Consistent N net ends count rows n old s → Consistent N net ends count rows n new s
+    pub keeps : (s : ℕ → ℕ) → Consistent l net ends count rows n old s → Consistent l net ends count rows n new s
 
   -- and if none went, Q holds of the table
   pub record Revised (n : ℕ) (Q : List ℕ → Type 0) (changed : Bool) (old new : List ℕ) : Type 0 where

@@ -5,6 +5,7 @@ use mathlib.Core.Logic.{_↔_}
 use mathlib.Core.List.{List}
 use Prim.Native.Nat.{ℕ, _+_, _*_, _/_, _≤_, _<_}
 use lib.ListN.{length, getD}
+use Rattle.gradings.specs.declared.Logic.{Logic}
 use Rattle.network.specs.Constraints.{OnChain}
 use Rattle.arcs.specs.declared.Bound.{Bound}
 
@@ -24,21 +25,21 @@ module _ (s : List ℕ) where
   abbrev pub Inside : (v : List ℕ) → Type 0
   Inside v = (x : ℕ) → x < boundCount → Within (boundAt x) v
 
--- ---- on N steps, of rows over m terms
+-- ---- by a logic, of rows over m terms
 
 -- the bound asks of a row on the chain what P says
-pub record Asks (N m : ℕ) (P : List ℕ → Type 0) (b : Bound) : Type 0 where
+pub record Asks (l : Logic) (m : ℕ) (P : List ℕ → Type 0) (b : Bound) : Type 0 where
   pub term-lt : b .term < m
-  pub exact : (v : List ℕ) → OnChain N m v → Within b v ↔ P v
+  pub exact : (v : List ℕ) → OnChain l m v → Within b v ↔ P v
 
 -- the box does
-pub record BoxOf (N m : ℕ) (P : List ℕ → Type 0) (box : List ℕ) : Type 0 where
+pub record BoxOf (l : Logic) (m : ℕ) (P : List ℕ → Type 0) (box : List ℕ) : Type 0 where
   pub terms : (x : ℕ) → x < boundCount box → boundAt box x .term < m
-  pub exact : (v : List ℕ) → OnChain N m v → Inside box v ↔ P v
+  pub exact : (v : List ℕ) → OnChain l m v → Inside box v ↔ P v
 
 -- on the way: to the first k bounds of `old`, `new` adds those up to r, and these ask what P says
-pub record Narrowed (N m : ℕ) (P : List ℕ → Type 0) (old : List ℕ) (k : ℕ) (new : List ℕ) (r : ℕ) : Type 0 where
+pub record Narrowed (l : Logic) (m : ℕ) (P : List ℕ → Type 0) (old : List ℕ) (k : ℕ) (new : List ℕ) (r : ℕ) : Type 0 where
   pub more : k ≤ r
   pub kept : (z : ℕ) → z < 3 * k → getD new z 0 ≡ getD old z 0
   pub terms : (x : ℕ) → k ≤ x → x < r → boundAt new x .term < m
-  pub exact : (v : List ℕ) → OnChain N m v → ((x : ℕ) → k ≤ x → x < r → Within (boundAt new x) v) ↔ P v
+  pub exact : (v : List ℕ) → OnChain l m v → ((x : ℕ) → k ≤ x → x < r → Within (boundAt new x) v) ↔ P v

@@ -3,7 +3,8 @@ ghost use mathlib.Core.Path.{_≡_};
 ghost use Prim.Native.Nat.{ℕ, _+_, _*_, _<_, _≤_};
 ghost use lib.ListN.{length};
 ghost use Rattle.chain.specs.Decisions.{Tells};
-ghost use Rattle.network.specs.Constraints.{constraintCount, Met, AllMet, Right, AllRight};
+ghost use Rattle.grades.specs.Rows.{rowAt};
+ghost use Rattle.network.specs.Constraints.{constraintCount, Met, AllMet, Right, AllRight, OnChain};
 ghost use Rattle.domains.specs.Gaps.{GapsFrom, Gaps};
 ghost use Rattle.domains.specs.Consistent.{FitsBy, Problem, Graded};
 ghost use Rattle.arcs.specs.Boxes.{Inside, Within, boundCount, boundAt, Asks, Narrowed};
@@ -11,6 +12,9 @@ ghost use Rattle.arcs.specs.Arcs.{Sought, Tried, SupportedBy, SupportedT
 use domains::leap;
 use domains::note_gaps;
 use grades::row_at;
+use gradings::Logic;
+use gradings::bound;
+use gradings::through;
 use network::Constraint;
 use network::between;
 use network::constraint_at;
@@ -25,72 +29,57 @@ pub struct Bound {
 
 // ---- the box in which the rows lie that are compatible with a row
 
-// What a constraint asks of the target's row where the source has this one: nothing, or that the child is not above, or not below, the own grade.
-fn bound_target(steps: u8, k: Constraint, terms: usize, source: &[u8]) -> Bound
-    requires { ⌜ Right steps terms k × (terms ≤ length (now source)) ⌝ }
-    ensures { λ r. ⌜ Asks steps terms (Met steps k (now (source .entry))) r ⌝ }
+// What a constraint asks of the target's row where the source has this one: that the child is not above, or not below, the edge of those that
+// permit the link.
+fn bound_target(logic: Logic, k: Constraint, terms: usize, source: &[u8]) -> Bound
+    requires { ⌜ Right logic terms k × (terms ≤ length (now source)) × OnChain logic terms (now source) ⌝ }
+    ensures { λ r. ⌜ Asks logic terms (Met logic k (now (source .entry))) r ⌝ }
 {
     let own = source[wide(k.own)];
+    let edge = bound(logic, k.kind, k.level, own);
     if k.kind == 4 {
-        if own < k.level {
-            return Bound {
-                term: k.child,
-                low: 0,
-                high: own,
-            };
-        }
-    }
-    if k.kind == 5 {
-        if steps - k.level < own {
-            return Bound {
-                term: k.child,
-                low: own,
-                high: steps,
-            };
-        }
+        return Bound {
+            term: k.child,
+            low: 0,
+            high: edge,
+        };
     }
     Bound {
         term: k.child,
-        low: 0,
-        high: steps,
+        low: edge,
+        high: logic.steps,
     }
 }
 
 // What it asks of the source's row where the target has this one: that the own grade is not below, or not above, what it takes from the child.
-fn bound_source(steps: u8, k: Constraint, terms: usize, target: &[u8]) -> Bound
-    requires { ⌜ Right steps terms k × (terms ≤ length (now target)) ⌝ }
-    ensures { λ r. ⌜ Asks steps terms (λ v. Met steps k v (now (target .entry))) r ⌝ }
+fn bound_source(logic: Logic, k: Constraint, terms: usize, target: &[u8]) -> Bound
+    requires { ⌜ Right logic terms k × (terms ≤ length (now target)) ⌝ }
+    ensures { λ r. ⌜ Asks logic terms (λ v. Met logic k v (now (target .entry))) r ⌝ }
 {
     let child = target[wide(k.child)];
+    let taken = through(logic, k.kind, k.level, child);
     if k.kind == 4 {
         return Bound {
             term: k.own,
-            low: grades::lesser(k.level, child),
-            high: steps,
-        };
-    }
-    if k.kind == 5 {
-        return Bound {
-            term: k.own,
-            low: 0,
-            high: grades::greater(steps - k.level, child),
+            low: taken,
+            high: logic.steps,
         };
     }
     Bound {
         term: k.own,
         low: 0,
-        high: steps,
+        high: taken,
     }
 }
 
 // Adds a bound as number `m`, if it leaves anything of the chain out. The number of bounds.
-fn put_bound(steps: u8, terms: usize, b: Bound, bounds: &mut [u8], m: usize) -> usize
+fn put_bound(logic: Logic, terms: usize, b: Bound, bounds: &mut [u8], m: usize) -> usize
     requires { ⌜ (b .term < terms) × (3 * m + 3 ≤ length (now bounds)) ⌝ }
-    ensures { λ r. ⌜ Narrowed steps terms (Within b) (now (bounds .entry)) m (now (bounds .exit)) r ⌝ }
+    ensures { λ r. ⌜ Narrowed logic terms (Within b) (now (bounds .entry)) m (now (bounds .exit)) r ⌝ }
     ensures { λ r. ⌜ r ≤ m + 1 ⌝ }
 {
     if b.low == 0 {
-        if steps <= b.high {
+        if logic.steps <= b.high {
             return m;
         }
     }
@@ -102,23 +91,24 @@ fn put_bound(steps: u8, terms: usize, b: Bound, bounds: &mut [u8], m: usize) -> 
 
 // Adds what all constraints of a list ask of the target's row.
 fn bound_targets(
-    steps: u8,
+    logic: Logic,
     s: &[u8],
     terms: usize,
     source: &[u8],
     bounds: &mut [u8],
     start: usize,
 ) -> usize
-    requires { ⌜ AllRight steps terms (now s) × (terms ≤ length (now source)) × (3 * (start + constraintCount (now s)) ≤ length (now bounds)) ⌝ }
-    ensures { λ r. ⌜ Narrowed steps terms (AllMet steps (now (s .entry)) (now (source .entry))) (now (bounds .entry)) start (now (bounds .exit)) r ⌝ }
+    requires { ⌜ AllRight logic terms (now s) × (terms ≤ length (now source)) × OnChain logic terms (now source)
+        × (3 * (start + constraintCount (now s)) ≤ length (now bounds)) ⌝ }
+    ensures { λ r. ⌜ Narrowed logic terms (AllMet logic (now (s .entry)) (now (source .entry))) (now (bounds .entry)) start (now (bounds .exit)) r ⌝ }
     ensures { λ r. ⌜ r ≤ start + constraintCount (now (s .entry)) ⌝ }
 {
     let count = s.len() / 4;
     let mut m = start;
     let mut y = 0;
     while y < count {
-        let b = bound_target(steps, constraint_at(s, y), terms, source);
-        m = put_bound(steps, terms, b, bounds, m);
+        let b = bound_target(logic, constraint_at(s, y), terms, source);
+        m = put_bound(logic, terms, b, bounds, m);
         y += 1;
     }
     m
@@ -126,23 +116,23 @@ fn bound_targets(
 
 // Adds what they ask of the source's row.
 fn bound_sources(
-    steps: u8,
+    logic: Logic,
     s: &[u8],
     terms: usize,
     target: &[u8],
     bounds: &mut [u8],
     start: usize,
 ) -> usize
-    requires { ⌜ AllRight steps terms (now s) × (terms ≤ length (now target)) × (3 * (start + constraintCount (now s)) ≤ length (now bounds)) ⌝ }
-    ensures { λ r. ⌜ Narrowed steps terms (λ v. AllMet steps (now (s .entry)) v (now (target .entry))) (now (bounds .entry)) start (now (bounds .exit)) r ⌝ }
+    requires { ⌜ AllRight logic terms (now s) × (terms ≤ length (now target)) × (3 * (start + constraintCount (now s)) ≤ length (now bounds)) ⌝ }
+    ensures { λ r. ⌜ Narrowed logic terms (λ v. AllMet logic (now (s .entry)) v (now (target .entry))) (now (bounds .entry)) start (now (bounds .exit)) r ⌝ }
     ensures { λ r. ⌜ r ≤ start + constraintCount (now (s .entry)) ⌝ }
 {
     let count = s.len() / 4;
     let mut m = start;
     let mut y = 0;
     while y < count {
-        let b = bound_source(steps, constraint_at(s, y), terms, target);
-        m = put_bound(steps, terms, b, bounds, m);
+        let b = bound_source(logic, constraint_at(s, y), terms, target);
+        m = put_bound(logic, terms, b, bounds, m);
         y += 1;
     }
     m
@@ -150,20 +140,20 @@ fn bound_sources(
 
 // Makes the box of the rows that are compatible with this one under the constraints forth and back. The number of its bounds.
 fn make_box(
-    steps: u8,
+    logic: Logic,
     forth: &[u8],
     back: &[u8],
     terms: usize,
     row: &[u8],
     bounds: &mut [u8],
 ) -> usize
-    requires { ⌜ AllRight steps terms (now forth) × AllRight steps terms (now back) × (terms ≤ length (now row)) ⌝ }
+    requires { ⌜ AllRight logic terms (now forth) × AllRight logic terms (now back) × (terms ≤ length (now row)) × OnChain logic terms (now row) ⌝ }
     requires { ⌜ (constraintCount (now forth) ≤ 64) × (constraintCount (now back) ≤ 64) × (384 ≤ length (now bounds)) ⌝ }
-    ensures { λ r. ⌜ Narrowed steps terms (FitsBy steps (now (forth .entry)) (now (back .entry)) (now (row .entry))) (now (bounds .entry)) 0 (now (bounds .exit)) r ⌝ }
+    ensures { λ r. ⌜ Narrowed logic terms (FitsBy logic (now (forth .entry)) (now (back .entry)) (now (row .entry))) (now (bounds .entry)) 0 (now (bounds .exit)) r ⌝ }
     ensures { λ r. ⌜ r ≤ 128 ⌝ }
 {
-    let m = bound_targets(steps, forth, terms, row, bounds, 0);
-    bound_sources(steps, back, terms, row, bounds, m)
+    let m = bound_targets(logic, forth, terms, row, bounds, 0);
+    bound_sources(logic, back, terms, row, bounds, m)
 }
 
 // Does the row lie in the box? The first bound that it passes decides.
@@ -237,7 +227,7 @@ fn seek_around(
 // A candidate for individual `i` that is compatible with `c` for another, under the constraints forth and back; the search starts at `hint`. Or
 // a number that is not below `count`.
 fn support(
-    steps: u8,
+    logic: Logic,
     forth: &[u8],
     back: &[u8],
     terms: usize,
@@ -250,12 +240,12 @@ fn support(
     c: usize,
     hint: usize,
 ) -> usize
-    requires { ⌜ AllRight steps terms (now forth) × AllRight steps terms (now back) × (constraintCount (now forth) ≤ 64) × (constraintCount (now back) ≤ 64) × (terms ≤ 64) ⌝ }
-    requires { ⌜ (i < individuals) × (individuals ≤ 8) × (c < count) × (hint ≤ count) × (count ≤ 16384) ⌝ }
-    requires { ⌜ (131072 ≤ length (now table)) × (1048576 ≤ length (now rows)) × (384 ≤ length (now bounds)) × Gaps (now table) individuals count × Graded steps terms count individuals (now rows) (now table) ⌝ }
-    ensures { λ r. ⌜ Tried steps (now (forth .entry)) (now (back .entry)) count (now (rows .entry)) (now (table .entry)) i c r ⌝ }
+    requires { ⌜ AllRight logic terms (now forth) × AllRight logic terms (now back) × (constraintCount (now forth) ≤ 64) × (constraintCount (now back) ≤ 64) × (terms ≤ 64) ⌝ }
+    requires { ⌜ (i < individuals) × (individuals ≤ 8) × (c < count) × (hint ≤ count) × (count ≤ 16384) × OnChain logic terms (rowAt (now rows) c) ⌝ }
+    requires { ⌜ (131072 ≤ length (now table)) × (1048576 ≤ length (now rows)) × (384 ≤ length (now bounds)) × Gaps (now table) individuals count × Graded logic terms count individuals (now rows) (now table) ⌝ }
+    ensures { λ r. ⌜ Tried logic (now (forth .entry)) (now (back .entry)) count (now (rows .entry)) (now (table .entry)) i c r ⌝ }
 {
-    let m = make_box(steps, forth, back, terms, row_at(rows, c), bounds);
+    let m = make_box(logic, forth, back, terms, row_at(rows, c), bounds);
     seek_around(&bounds[..3 * m], table, rows, i, hint, count)
 }
 
@@ -264,7 +254,7 @@ fn support(
 // Takes from individual `j` the candidates that have no support by `i`, under the constraints between the two, forth and back. Was one taken
 // away?
 fn revise(
-    steps: u8,
+    logic: Logic,
     forth: &[u8],
     back: &[u8],
     terms: usize,
@@ -276,10 +266,10 @@ fn revise(
     j: usize,
     i: usize,
 ) -> bool
-    requires { ⌜ AllRight steps terms (now forth) × AllRight steps terms (now back) × (constraintCount (now forth) ≤ 64) × (constraintCount (now back) ≤ 64) × (terms ≤ 64) ⌝ }
+    requires { ⌜ AllRight logic terms (now forth) × AllRight logic terms (now back) × (constraintCount (now forth) ≤ 64) × (constraintCount (now back) ≤ 64) × (terms ≤ 64) ⌝ }
     requires { ⌜ (j < individuals) × (i < individuals) × (individuals ≤ 8) × (¬ (i ≡ j)) × (count ≤ 16384) ⌝ }
-    requires { ⌜ (131072 ≤ length (now table)) × (1048576 ≤ length (now rows)) × (384 ≤ length (now bounds)) × Gaps (now table) individuals count × Graded steps terms count individuals (now rows) (now table) ⌝ }
-    ensures { λ r. ⌜ RevisedBy steps (now (forth .entry)) (now (back .entry)) count (now (rows .entry)) j i count r (now (table .entry)) (now (table .exit)) ⌝ }
+    requires { ⌜ (131072 ≤ length (now table)) × (1048576 ≤ length (now rows)) × (384 ≤ length (now bounds)) × Gaps (now table) individuals count × Graded logic terms count individuals (now rows) (now table) ⌝ }
+    ensures { λ r. ⌜ RevisedBy logic (now (forth .entry)) (now (back .entry)) count (now (rows .entry)) j i count r (now (table .entry)) (now (table .exit)) ⌝ }
     ensures { λ _. ⌜ Gaps (now (table .exit)) individuals count ⌝ }
 {
     let mut changed = false;
@@ -294,7 +284,7 @@ fn revise(
         }
         next += 1;
         let d = support(
-            steps,
+            logic,
             forth,
             back,
             terms,
@@ -319,7 +309,7 @@ fn revise(
 
 // The same by the network, where there are constraints between the two. The gaps are noted anew.
 fn revise_by(
-    steps: u8,
+    logic: Logic,
     net: &[u8],
     ends: &[u16],
     terms: usize,
@@ -331,11 +321,11 @@ fn revise_by(
     j: usize,
     i: usize,
 ) -> bool
-    requires { ⌜ Problem steps terms (now net) (now ends) count individuals (now rows) ⌝ }
+    requires { ⌜ Problem logic terms (now net) (now ends) count individuals (now rows) ⌝ }
     requires { ⌜ (j < individuals) × (i < individuals) × (¬ (i ≡ j)) × (131072 ≤ length (now table)) × (384 ≤ length (now bounds)) ⌝ }
-    requires { ⌜ Gaps (now table) individuals count × Graded steps terms count individuals (now rows) (now table) ⌝ }
-    ensures { λ r. ⌜ Revised steps (now (net .entry)) (now (ends .entry)) count (now (rows .entry)) individuals
-        (SupportedBy steps (now (net .entry)) (now (ends .entry)) count (now (rows .entry)) j i) r (now (table .entry)) (now (table .exit)) ⌝ }
+    requires { ⌜ Gaps (now table) individuals count × Graded logic terms count individuals (now rows) (now table) ⌝ }
+    ensures { λ r. ⌜ Revised logic (now (net .entry)) (now (ends .entry)) count (now (rows .entry)) individuals
+        (SupportedBy logic (now (net .entry)) (now (ends .entry)) count (now (rows .entry)) j i) r (now (table .entry)) (now (table .exit)) ⌝ }
     ensures { λ _. ⌜ Gaps (now (table .exit)) individuals count ⌝ }
 {
     let forth = between(net, ends, j, i);
@@ -346,7 +336,7 @@ fn revise_by(
         }
     }
     if !revise(
-        steps,
+        logic,
         forth,
         back,
         terms,
@@ -366,7 +356,7 @@ fn revise_by(
 
 // Revises individual `j` by every other one. Was a candidate taken away?
 fn revise_all(
-    steps: u8,
+    logic: Logic,
     net: &[u8],
     ends: &[u16],
     terms: usize,
@@ -377,11 +367,11 @@ fn revise_all(
     bounds: &mut [u8],
     j: usize,
 ) -> bool
-    requires { ⌜ Problem steps terms (now net) (now ends) count individuals (now rows) ⌝ }
+    requires { ⌜ Problem logic terms (now net) (now ends) count individuals (now rows) ⌝ }
     requires { ⌜ (j < individuals) × (131072 ≤ length (now table)) × (384 ≤ length (now bounds)) ⌝ }
-    requires { ⌜ Gaps (now table) individuals count × Graded steps terms count individuals (now rows) (now table) ⌝ }
-    ensures { λ r. ⌜ Revised steps (now (net .entry)) (now (ends .entry)) count (now (rows .entry)) individuals
-        (SupportedTo steps (now (net .entry)) (now (ends .entry)) count (now (rows .entry)) j individuals) r (now (table .entry)) (now (table .exit)) ⌝ }
+    requires { ⌜ Gaps (now table) individuals count × Graded logic terms count individuals (now rows) (now table) ⌝ }
+    ensures { λ r. ⌜ Revised logic (now (net .entry)) (now (ends .entry)) count (now (rows .entry)) individuals
+        (SupportedTo logic (now (net .entry)) (now (ends .entry)) count (now (rows .entry)) j individuals) r (now (table .entry)) (now (table .exit)) ⌝ }
     ensures { λ _. ⌜ Gaps (now (table .exit)) individuals count ⌝ }
 {
     let mut changed = false;
@@ -393,7 +383,7 @@ fn revise_all(
             continue;
         }
         if revise_by(
-            steps,
+            logic,
             net,
             ends,
             terms,
@@ -413,7 +403,7 @@ fn revise_all(
 
 // One pass over the individuals. Was a candidate taken away?
 fn pass(
-    steps: u8,
+    logic: Logic,
     net: &[u8],
     ends: &[u16],
     terms: usize,
@@ -423,18 +413,18 @@ fn pass(
     table: &mut [u8],
     bounds: &mut [u8],
 ) -> bool
-    requires { ⌜ Problem steps terms (now net) (now ends) count individuals (now rows) ⌝ }
+    requires { ⌜ Problem logic terms (now net) (now ends) count individuals (now rows) ⌝ }
     requires { ⌜ (131072 ≤ length (now table)) × (384 ≤ length (now bounds)) ⌝ }
-    requires { ⌜ Gaps (now table) individuals count × Graded steps terms count individuals (now rows) (now table) ⌝ }
-    ensures { λ r. ⌜ Revised steps (now (net .entry)) (now (ends .entry)) count (now (rows .entry)) individuals
-        (ArcConsistent steps (now (net .entry)) (now (ends .entry)) count (now (rows .entry)) individuals) r (now (table .entry)) (now (table .exit)) ⌝ }
+    requires { ⌜ Gaps (now table) individuals count × Graded logic terms count individuals (now rows) (now table) ⌝ }
+    ensures { λ r. ⌜ Revised logic (now (net .entry)) (now (ends .entry)) count (now (rows .entry)) individuals
+        (ArcConsistent logic (now (net .entry)) (now (ends .entry)) count (now (rows .entry)) individuals) r (now (table .entry)) (now (table .exit)) ⌝ }
     ensures { λ _. ⌜ Gaps (now (table .exit)) individuals count ⌝ }
 {
     let mut changed = false;
     let mut j = 0;
     while j < individuals {
         if revise_all(
-            steps,
+            logic,
             net,
             ends,
             terms,
@@ -454,7 +444,7 @@ fn pass(
 
 // Takes candidates away that belong to no consistent placement, until the table is arc consistent.
 pub fn prune(
-    steps: u8,
+    logic: Logic,
     net: &[u8],
     ends: &[u16],
     terms: usize,
@@ -463,17 +453,17 @@ pub fn prune(
     rows: &[u8],
     table: &mut [u8],
 )
-    requires { ⌜ Problem steps terms (now net) (now ends) count individuals (now rows) ⌝ }
+    requires { ⌜ Problem logic terms (now net) (now ends) count individuals (now rows) ⌝ }
     requires { ⌜ 131072 ≤ length (now table) ⌝ }
-    requires { ⌜ Gaps (now table) individuals count × Graded steps terms count individuals (now rows) (now table) ⌝ }
-    ensures { λ _. ⌜ Pruned steps (now (net .entry)) (now (ends .entry)) count (now (rows .entry)) individuals (now (table .entry)) (now (table .exit)) ⌝ }
-    ensures { λ _. ⌜ ArcConsistent steps (now (net .entry)) (now (ends .entry)) count (now (rows .entry)) individuals (now (table .exit)) ⌝ }
+    requires { ⌜ Gaps (now table) individuals count × Graded logic terms count individuals (now rows) (now table) ⌝ }
+    ensures { λ _. ⌜ Pruned logic (now (net .entry)) (now (ends .entry)) count (now (rows .entry)) individuals (now (table .entry)) (now (table .exit)) ⌝ }
+    ensures { λ _. ⌜ ArcConsistent logic (now (net .entry)) (now (ends .entry)) count (now (rows .entry)) individuals (now (table .exit)) ⌝ }
     ensures { λ _. ⌜ Gaps (now (table .exit)) individuals count ⌝ }
 {
     let mut bounds = [0u8; 384];
     loop {
         if !pass(
-            steps,
+            logic,
             net,
             ends,
             terms,

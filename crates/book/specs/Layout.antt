@@ -88,6 +88,10 @@ module _ (b : List ℕ) where
 
   -- ---- "Each section is handed on as the stretch its entry names."
 
+  -- the sections follow one another within the bytes
+  abbrev pub InOrder : Sections → Type 0
+  InOrder s = (s .terms ≤ s .rules) × (s .rules ≤ s .memberships) × (s .memberships ≤ s .links) × (s .links ≤ s .end) × (s .end ≤ length b)
+
   abbrev pub stretch : (from to : ℕ) → List ℕ
   stretch from to = take (to - from) (drop from b)
 

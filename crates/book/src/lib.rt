@@ -1,17 +1,21 @@
 // Opens a book: its head and layout are checked here, each body by its section's own checker.
 ghost use mathlib.Core.Path.{_≡_};
 ghost use Prim.Native.Nat.{_+_, _*_, _≤_, _<_};
-ghost use lib.ListN.{length, getD};
+ghost use lib.ListN.{length};
 ghost use lib.Seq.{sets};
 ghost use Rattle.chain.specs.Decisions.{Tells};
 ghost use Rattle.chain.specs.Questions.{firstNo};
-ghost use Rattle.book.specs.Layout.{wordAt, sectionsOf, LengthRight, StepsRight, CountsRight, LaidOut};
+ghost use Rattle.sections.specs.Terms.{termsOf};
+ghost use Rattle.gradings.specs.Gradings.{grading};
+ghost use Rattle.book.specs.Layout.{wordAt, sectionsOf, LengthRight, StepsRight, CountsRight, LaidOut, InOrder, termBytes, ruleBytes, membershipBytes, linkBytes, termsIn};
+ghost use Rattle.book.specs.Reading.{bookOf, countsOf};
 ghost use Rattle.book.specs.Writing.{wordBytes};
 ghost use Rattle.book.specs.Opening.{bodyQuestions, Right, opened, openedOf, countedOf};
+use gradings::Logic;
 use powers::Power;
 use sections::wide;
 
-// The steps of the chain, where each body begins, and where the last ends.
+// The book's own N, which its checks go by, where each body begins, and where the last ends.
 pub struct Sections {
     pub steps: u8,
     pub terms: usize,
@@ -19,6 +23,13 @@ pub struct Sections {
     pub memberships: usize,
     pub links: usize,
     pub end: usize,
+}
+
+// A, R and I: how many names, roles and individuals a book has.
+pub struct Counts {
+    pub names: usize,
+    pub roles: usize,
+    pub individuals: usize,
 }
 
 // The number of the first check that says no, or the sections.
@@ -125,27 +136,70 @@ fn laid_out(b: &[u8], s: Sections) -> bool
     b.len() == s.end
 }
 
-// Each body, as the stretch that its entry names, goes to its own checker.
+// ---- each section, as the stretch that its entry names
+
+pub fn terms_in(b: &[u8], s: Sections) -> &[u8]
+    requires { ⌜ InOrder (now b) s ⌝ }
+    ensures { λ r. ⌜ now r ≡ termBytes (now (b .entry)) s ⌝ }
+{
+    let start = s.terms;
+    let end = s.rules;
+    &b[start..end]
+}
+
+pub fn rules_in(b: &[u8], s: Sections) -> &[u8]
+    requires { ⌜ InOrder (now b) s ⌝ }
+    ensures { λ r. ⌜ now r ≡ ruleBytes (now (b .entry)) s ⌝ }
+{
+    let start = s.rules;
+    let end = s.memberships;
+    &b[start..end]
+}
+
+pub fn memberships_in(b: &[u8], s: Sections) -> &[u8]
+    requires { ⌜ InOrder (now b) s ⌝ }
+    ensures { λ r. ⌜ now r ≡ membershipBytes (now (b .entry)) s ⌝ }
+{
+    let start = s.memberships;
+    let end = s.links;
+    &b[start..end]
+}
+
+pub fn links_in(b: &[u8], s: Sections) -> &[u8]
+    requires { ⌜ InOrder (now b) s ⌝ }
+    ensures { λ r. ⌜ now r ≡ linkBytes (now (b .entry)) s ⌝ }
+{
+    let start = s.links;
+    let end = s.end;
+    &b[start..end]
+}
+
+// The number of terms.
+pub fn count_terms(s: Sections) -> usize
+    requires { ⌜ s .terms ≤ s .rules ⌝ }
+    ensures { λ r. ⌜ r ≡ termsIn s ⌝ }
+{
+    (s.rules - s.terms) / 3
+}
+
+// ---- opening
+
+// Each body goes to its own checker.
 fn open_bodies(b: &[u8], s: Sections) -> Opened
-    requires { ⌜ (s .terms ≤ s .rules) × (s .rules ≤ s .memberships) × (s .memberships ≤ s .links) × (s .links ≤ s .end) × (s .end ≤ length (now b)) ⌝ }
+    requires { ⌜ InOrder (now b) s ⌝ }
     ensures { λ r. ⌜ r ≡ opened s (firstNo (bodyQuestions (now (b .entry)) s)) ⌝ }
 {
-    let terms = s.terms;
-    let rules = s.rules;
-    let memberships = s.memberships;
-    let links = s.links;
-    let end = s.end;
-    let count = (rules - terms) / 3;
-    if !sections::terms_right(&b[terms..rules]) {
+    let count = count_terms(s);
+    if !sections::terms_right(terms_in(b, s)) {
         return Opened::Refused(6);
     }
-    if !sections::rules_right(&b[rules..memberships], count) {
+    if !sections::rules_right(rules_in(b, s), count) {
         return Opened::Refused(7);
     }
-    if !sections::memberships_right(&b[memberships..links], s.steps, count) {
+    if !sections::memberships_right(memberships_in(b, s), s.steps, count) {
         return Opened::Refused(8);
     }
-    if !sections::links_right(&b[links..end], s.steps) {
+    if !sections::links_right(links_in(b, s), s.steps) {
         return Opened::Refused(9);
     }
     Opened::Accepted(s)
@@ -174,17 +228,40 @@ pub fn open(b: &[u8]) -> Opened
     open_bodies(b, s)
 }
 
-// The number of candidates of an accepted book whose sections are `s`, or the refusal 10.
+// ---- an accepted book whose sections are `s`
+
+// The number of candidates, or the refusal 10.
 pub fn count_in(b: &[u8], s: Sections) -> Counted
     requires { ⌜ Right (now b) s ⌝ }
     ensures { λ r. ⌜ r ≡ countedOf (now (b .entry)) ⌝ }
 {
-    let terms = s.terms;
-    let rules = s.rules;
-    match counts::count_candidates(&b[terms..rules], s.steps) {
+    match counts::count_candidates(terms_in(b, s), s.steps) {
         Power::Exactly(n) => Counted::Candidates(n),
         Power::More => Counted::Refused(10),
     }
+}
+
+// How many names, roles and individuals it has.
+pub fn counts_in(b: &[u8], s: Sections) -> Counts
+    requires { ⌜ Right (now b) s ⌝ }
+    ensures { λ r. ⌜ r ≡ countsOf (bookOf (now (b .entry))) ⌝ }
+    ensures { λ r. ⌜ (r .names ≤ 16) × (r .roles ≤ 8) × (r .individuals ≤ 8) ⌝ }
+{
+    let links = links_in(b, s);
+    Counts {
+        names: counts::count_names(terms_in(b, s)),
+        roles: counts::count_roles(terms_in(b, s), links),
+        individuals: counts::count_individuals(memberships_in(b, s), links),
+    }
+}
+
+// What its grades are worked out by: with its terms, this stands for its grading.
+pub fn logic_in(b: &[u8], s: Sections) -> Logic
+    requires { ⌜ Right (now b) s ⌝ }
+    ensures { λ r. ⌜ grading r (termsOf (termBytes (now (b .entry)) s)) ≡ bookOf (now (b .entry)) .grading ⌝ }
+    ensures { λ r. ⌜ (1 ≤ r .steps) × (r .steps ≤ 8) ⌝ }
+{
+    gradings::base_logic(s.steps)
 }
 
 // Checks a book, 1 to 10, and counts its candidates.

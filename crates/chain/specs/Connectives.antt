@@ -2,6 +2,7 @@
 -- the laws that the theory asks of them, and the base instance.
 -- Assumes nothing.
 use mathlib.Core.Path.{_≡_}
+use mathlib.Core.Logic.{_↔_}
 use Prim.Native.Nat.{ℕ, zero, suc, _-_, _≤_, min, max}
 use native.Mathlib.Decide.{decLe}
 
@@ -49,6 +50,26 @@ unfoldable pub within? : (q : Quantifier) (x y : ℕ) → Dec (Within q x y)
 unfolding decLe
 within? existential x y = decLe x y
 within? universal x y = decLe y x
+
+-- ---- a term graded o, through a link of grade s to a child of grade y
+
+-- it takes no more than its grade, and so allows the link; and it takes no less
+abbrev pub Permits : Connectives → Quantifier → (s y o : ℕ) → Type 0
+Permits L q s y o = Within q (through L q s y) o
+
+abbrev pub Reaches : Connectives → Quantifier → (s y o : ℕ) → Type 0
+Reaches L q s y o = Within q o (through L q s y)
+
+-- the children that permit the link are those up to b ("some"), or from b on ("all")
+abbrev pub Bounds : (N : ℕ) (L : Connectives) → Quantifier → (s o b : ℕ) → Type 0
+Bounds N L q s o b = (y : ℕ) → y ≤ N → Within q y b ↔ Permits L q s y o
+
+-- ---- the link that a term wants of its witness
+
+-- Through a link of grade s a term of grade g takes its grade, or passes it, from a child of grade y, exactly if s is at least w: w is the
+-- least such link, and above N where there is none.
+abbrev pub Wants : (N : ℕ) (L : Connectives) → Quantifier → (g y w : ℕ) → Type 0
+Wants N L q g y w = (s : ℕ) → s ≤ N → (w ≤ s) ↔ Reaches L q s y g
 
 -- over nothing, "some" comes to 0 and "all" to N
 abbrev pub neutral : Quantifier → ℕ → ℕ

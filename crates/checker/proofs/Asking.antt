@@ -1,11 +1,17 @@
--- Laws of the two questions: which checks that were made give which answer; and the book that was opened is the one asked about.
+-- Laws of the two questions: which checks that were made give which answer; and what an accepted book's section of terms gives the code that
+-- works out grades by it.
 -- Assumes nothing.
 use mathlib.Core.Path.{_≡_, refl, ap, _∙_}
 use mathlib.Core.Option.{Option, none, some}
 use mathlib.Core.List.{List, [], _∷_, _++_}
-use Prim.Native.Nat.{ℕ}
+use Prim.Native.Nat.{ℕ, _≤_}
 use Rattle.chain.specs.Questions.{Question, ask, firstNo}
 use Rattle.chain.proofs.Questions.{first-empty, first-yes, first-no, first-some-append, first-none-append}
+use Rattle.sections.specs.Terms.{termCount, TermsRight}
+use Rattle.book.specs.Layout.{termBytes, termsIn}
+use Rattle.book.specs.Opening.{Right}
+use Rattle.book.specs.declared.Sections.{Sections}
+use Rattle.book.proofs.Reading.{right-terms, right-few}
 use Rattle.checker.specs.Asking.{answered, answerNumber}
 use Rattle.checker.specs.declared.Answer.the-variants.{Refused, Grade}
 
@@ -25,6 +31,10 @@ module _ (g : ℕ) (qs : List Question) {A B : Type 0} (m n : ℕ) (d : Dec A) (
 
   pub answered-both : firstNo qs ≡ none → A → B → answered g (firstNo asked) ≡ Grade g
   answered-both h a b = ap (answered g) (first-none-append qs _ h ∙ first-yes m d _ a ∙ first-yes n e _ b ∙ first-empty)
+
+-- the section of terms, as code is handed it
+pub terms-fit : (b : List ℕ) (s : Sections) → Right b s → (ts : List ℕ) → ts ≡ termBytes b s → TermsRight ts × (termCount ts ≡ termsIn s) × (termsIn s ≤ 64)
+terms-fit b s ok ts are = (rw are (ok .terms-right), rw are (right-terms b s ok), right-few b s ok)
 
 -- an answer's number is the first no
 pub answerNumber-is : (g : ℕ) (o : Option ℕ) → answerNumber (answered g o) ≡ o

@@ -4,35 +4,38 @@
 use mathlib.Core.Path.{_≡_, refl, sym, ap, ap₂, subst, _∙_}
 use mathlib.Core.Option.{Option, none, some}
 use mathlib.Core.List.{List, [], _++_}
-use Prim.Native.Nat.{ℕ, _*_, _≤_, max}
+use Prim.Native.Nat.{ℕ, _*_, _≤_}
+use native.Mathlib.Nat.{mul-le-mul}
 use native.Mathlib.Decide.{decLe}
 use native.Mathlib.Omega.{arith}
 use lib.ListN.{length, drop}
-use Rattle.chain.specs.Lists.{highest}
 use Rattle.chain.specs.Questions.{firstNo}
 use Rattle.chain.proofs.Questions.{first-empty, first-yes, first-no, first-some-append, first-none-append}
-use Rattle.semantics.specs.Interpretations.{Grading, Interpretation, graded}
-use Rattle.semantics.specs.Books.{Book, nameAbove, roleAbove, linkRoles, membershipIndividuals, linkIndividuals, nameCount, roleCount, individuals}
+use Rattle.semantics.specs.Interpretations.{Grading, Interpretation}
+use Rattle.semantics.specs.Books.{nameCount, roleCount, individuals}
 use Rattle.sections.specs.Terms.{termsOf}
-use Rattle.sections.specs.Claims.{membershipsOf, linksOf}
-use Rattle.sections.proofs.Terms.{length-terms}
+use Rattle.gradings.specs.Gradings.{grading}
+use Rattle.gradings.specs.declared.Logic.{Logic}
 use Rattle.book.specs.Layout.{termBytes, ruleBytes, membershipBytes, linkBytes, termsIn}
-use Rattle.book.specs.Reading.{bookOf}
+use Rattle.book.specs.Reading.{bookAt, bookOf, countsOf}
 use Rattle.book.specs.Opening.{bookQuestions, Accepts, Right, openedOf}
 use Rattle.book.specs.declared.Sections.{Sections}
+use Rattle.book.specs.declared.Counts.{Counts}
 use Rattle.book.specs.declared.Opened.the-variants.{Refused as Closed}
 use Rattle.book.proofs.Opening.{opened-refused, right-accepts}
-use Rattle.book.proofs.Reading.{right-book, right-terms, right-few, right-short, right-length, right-counts, right-valid}
-use Rattle.sheets.specs.Layout.{shapeOf, EntriesRight, nameBytes, linkBytes as sheetLinks, individualBytes}
-use Rattle.sheets.specs.Reading.{sheetAt, sheetOf}
+use Rattle.book.proofs.Reading.{right-book, right-few, right-short, right-length, right-counts, right-valid}
+use Rattle.sheets.specs.Layout.{EntriesRight, nameBytes, linkBytes as sheetLinks, individualBytes}
+use Rattle.sheets.specs.Reading.{sheetOf}
 use Rattle.sheets.specs.Grids.{gridOf}
-use Rattle.sheets.specs.Opening.{sheetQuestions, SheetRight}
+use Rattle.sheets.specs.Opening.{sheetOpened}
 use Rattle.sheets.specs.Working.{verdictOf}
 use Rattle.sheets.specs.declared.Shape.{Shape}
-use Rattle.sheets.proofs.Opening.{right-none, length-names, length-links, length-individuals}
+use Rattle.sheets.specs.declared.Sheet.{Sheet}
+use Rattle.sheets.specs.declared.Sheet.the-variants.{Refused as Unfit, Right as Fits}
+use Rattle.sheets.proofs.Opening.{opened-right, opened-refused as sheet-refused, right-none, length-names, length-links, length-individuals}
 use Rattle.sheets.proofs.Reading.{everywhere, sheet-is}
 use Rattle.grids.specs.Columns.{rowsOf}
-use Rattle.grids.specs.Workable.{Workable}
+use Rattle.grids.specs.Workable.{Workable, WorkedAll}
 use Rattle.grids.proofs.Columns.{rows-grid}
 use Rattle.verdicts.specs.Cells.{verdictIn, Covered}
 use Rattle.verdicts.proofs.Cells.{verdict-in, covered}
@@ -67,10 +70,6 @@ module _ (b t : List ℕ) where
 
   -- ---- the answer and the grid, by it
 
-  pub worked-refused : (g n : ℕ) → firstNo (workQuestions b t g) ≡ some n → workedOf b t g ≡ Refused n
-  unfolding workedOf
-  worked-refused g n e = ap (worked b t) e
-
   pub worked-says : (g : ℕ) → firstNo (workQuestions b t g) ≡ none → workedOf b t g ≡ Says (verdictOf (bookOf b) (sheetOf t))
   unfolding workedOf
   worked-says g e = ap (worked b t) e
@@ -78,6 +77,12 @@ module _ (b t : List ℕ) where
   pub grid-refused : (grid : List ℕ) (n : ℕ) → firstNo (workQuestions b t (length grid)) ≡ some n → gridAfter b t grid ≡ grid
   unfolding gridAfter
   grid-refused grid n e = ap (λ (o : Option ℕ). gridBy b t o grid) e
+
+  -- what a refusal answers, and that it keeps the grid
+  pub refused : (grid : List ℕ) (n : ℕ) → firstNo (workQuestions b t (length grid)) ≡ some n
+      → (Refused n ≡ workedOf b t (length grid)) × (grid ≡ gridAfter b t grid)
+  unfolding workedOf
+  refused grid n e = (sym (ap (worked b t) e), sym (grid-refused grid n e))
 
   pub grid-worked : (grid : List ℕ) → firstNo (workQuestions b t (length grid)) ≡ none
       → gridAfter b t grid ≡ gridOf (bookOf b .grading) (sheetOf t) ++ drop (gridSize b t) grid
@@ -87,82 +92,74 @@ module _ (b t : List ℕ) where
 -- ---- a sheet that fits an accepted book
 
 module _ (b t : List ℕ) (s : Sections) (ok : Right b s) (p : Shape) (fits : SheetFits b t p) where
-  abbrev G : Grading
-  G = graded (s .steps) (termsOf (termBytes b s))
+  -- by the number of terms that code counted
+  module _ (k : ℕ) (counted : k ≡ termsIn s) where
+    pub size-is : gridSize b t ≡ p .elements * k
+    unfolding gridSize
+    size-is = rw (counted, fits .shape-is, right-length b s ok)
 
-  pub size-is : gridSize b t ≡ p .elements * termsIn s
-  unfolding gridSize
-  size-is = ap₂ _*_ (ap (λ (q : Shape). q .elements) (sym (fits .shape-is))) (right-length b s ok)
+    pub size-few : p .elements * k ≤ 4096
+    size-few = rw counted (mul-le-mul (fits .head-right .1 .1 .1 .1 .0) (right-few b s ok))
 
-  pub fits-workable : Workable (termBytes b s) (s .steps) (p .elements) (p .names) (p .roles) (nameBytes t p) (sheetLinks t p)
-  fits-workable =
-      let k = right-counts b s ok in
-      let entries = subst (λ (N : ℕ). EntriesRight t p N) (k .0) (fits .entries-right) in
-      record {
-        right = ok .terms-right;
-        few-terms = right-short b s ok;
-        few-elements = fits .head-right .1 .1 .1 .1 .0;
-        names-long = omega (arith, length-names t p _ _ _ _ fits);
-        links-long = omega (arith, length-links t p _ _ _ _ fits);
-        names-le = everywhere (λ g. g ≤ s .steps) (nameBytes t p) (omega arith) (entries .0);
-        links-le = everywhere (λ g. g ≤ s .steps) (sheetLinks t p) (omega arith) (entries .1 .0);
-        names-counted = omega (arith, k .1, fits .head-right .1 .1 .1 .1 .1 .0);
-        roles-counted = omega (arith, k .2, fits .head-right .1 .1 .1 .1 .1 .1 .0);
-      }
+    pub fits-grid : (v : List ℕ) → Filled b t v → rowsOf v k (p .elements) ≡ gridOf (bookOf b .grading) (sheetOf t)
+    unfolding Filled
+    fits-grid v holds =
+        ap₂ (rowsOf v) (counted ∙ sym (right-length b s ok)) (ap (λ (I : Interpretation). I .size) (sheet-is t p _ _ _ _ fits))
+        ∙ rows-grid (bookOf b .grading) (sheetOf t) v holds
 
-  pub fits-covered : (v : List ℕ) → 4096 ≤ length v
-      → Covered (ruleBytes b s) (membershipBytes b s) (linkBytes b s) v (p .elements) (sheetLinks t p) (individualBytes t p)
-  fits-covered v h =
-      let k = right-counts b s ok in
-      covered (ruleBytes b s) (membershipBytes b s) (linkBytes b s) v (p .elements) (sheetLinks t p) (individualBytes t p) (s .steps) (termsIn s) (p .roles)
-      (fits .head-right .1 .1 .1 .1 .0) (fits .entries-right .1 .1) (ok .rules-right) (ok .memberships-right)
-      (omega (arith, right-few b s ok))
-      (omega (arith, k .3, fits .head-right .1 .1 .1 .1 .1 .1 .1, length-individuals t p _ _ _ _ fits))
-      (omega (arith, k .2, fits .head-right .1 .1 .1 .1 .1 .1 .0))
-      (omega (arith, length-links t p _ _ _ _ fits))
+  -- by a logic that stands, with the section of terms, for the book's grading
+  module _ (ts : List ℕ) (lg : Logic) (are : ts ≡ termBytes b s) (is : grading lg (termsOf (termBytes b s)) ≡ bookOf b .grading) where
+    pub fits-workable : Workable ts lg (p .elements) (p .names) (p .roles) (nameBytes t p) (sheetLinks t p)
+    fits-workable =
+        let k = right-counts b s ok in
+        let entries = subst (λ (G : Grading). EntriesRight t p (G .steps)) (sym is) (fits .entries-right) in
+        rw are (record {
+          right = ok .terms-right;
+          few-terms = right-short b s ok;
+          few-elements = fits .head-right .1 .1 .1 .1 .0;
+          names-long = omega (arith, length-names t p _ _ _ _ fits);
+          links-long = omega (arith, length-links t p _ _ _ _ fits);
+          names-le = everywhere (λ g. g ≤ lg .steps) (nameBytes t p) (omega arith) (entries .0);
+          links-le = everywhere (λ g. g ≤ lg .steps) (sheetLinks t p) (omega arith) (entries .1 .0);
+          names-counted = omega (arith, k .1, fits .head-right .1 .1 .1 .1 .1 .0);
+          roles-counted = omega (arith, k .2, fits .head-right .1 .1 .1 .1 .1 .1 .0);
+        })
 
-  module _ (v : List ℕ) (holds : Filled b s t p v) where
-    pub fits-verdict : verdictIn (ruleBytes b s) (membershipBytes b s) (linkBytes b s) v (p .elements) (sheetLinks t p) (individualBytes t p)
-        ≡ verdictOf (bookOf b) (sheetOf t)
-    fits-verdict =
-        verdict-in G (ruleBytes b s) (membershipBytes b s) (linkBytes b s) (p .elements) (p .names) (nameBytes t p) (sheetLinks t p) (individualBytes t p) v
-        (right-valid b s ok) (fits .head-right .1 .1 .1 .0) (fits .entries-right .1 .1) (holds (individualBytes t p))
-        ∙ ap₂ verdictOf (right-book b s ok) (sheet-is t p _ _ _ _ fits)
+    pub fits-filled : (v : List ℕ) → WorkedAll ts lg (p .elements) (p .names) (nameBytes t p) (sheetLinks t p) v → Filled b t v
+    unfolding Filled
+    fits-filled v h = rw (← is, ← are, ← sheet-is t p _ _ _ _ fits) (h (individualBytes t p))
 
-    pub fits-grid : rowsOf v (termsIn s) (p .elements) ≡ gridOf (bookOf b .grading) (sheetOf t)
-    fits-grid =
-        ap (λ (n : ℕ). rowsOf v n (p .elements)) (sym (length-terms (termBytes b s) ∙ right-terms b s ok))
-        ∙ rows-grid G (sheetAt t p) v (holds (individualBytes t p))
-        ∙ ap₂ (λ (B : Book) (I : Interpretation). gridOf (B .grading) I) (right-book b s ok) (sheet-is t p _ _ _ _ fits)
+  -- by the sections of rules and claims, and by columns that hold the grades
+  module _ (rs ms qs v : List ℕ) (rules : rs ≡ ruleBytes b s) (memberships : ms ≡ membershipBytes b s) (links : qs ≡ linkBytes b s) where
+    pub fits-covered : 4096 ≤ length v → Covered rs ms qs v (p .elements) (sheetLinks t p) (individualBytes t p)
+    fits-covered h =
+        let k = right-counts b s ok in
+        rw (rules, memberships, links)
+        (covered _ _ _ v _ _ _ (s .steps) (termsIn s) (p .roles) (fits .head-right .1 .1 .1 .1 .0) (fits .entries-right .1 .1) (ok .rules-right) (ok .memberships-right)
+        (omega (arith, right-few b s ok))
+        (omega (arith, k .3, fits .head-right .1 .1 .1 .1 .1 .1 .1, length-individuals t p _ _ _ _ fits))
+        (omega (arith, k .2, fits .head-right .1 .1 .1 .1 .1 .1 .0))
+        (omega (arith, length-links t p _ _ _ _ fits)))
 
--- ---- asked by the counts that code made
+    pub fits-verdict : Filled b t v → verdictIn rs ms qs v (p .elements) (sheetLinks t p) (individualBytes t p) ≡ verdictOf (bookOf b) (sheetOf t)
+    unfolding Filled
+    fits-verdict holds =
+        rw (rules, memberships, links, ← right-book b s ok, ← sheet-is t p _ _ _ _ fits)
+        (verdict-in (bookAt b s .grading) _ _ _ _ (p .names) (nameBytes t p) _ _ v (right-valid b s ok) (fits .head-right .1 .1 .1 .0) (fits .entries-right .1 .1)
+        (rw (← right-book b s ok, ← sheet-is t p _ _ _ _ fits) at holds))
 
-module _ (b t : List ℕ) (s : Sections) (ok : Right b s) where
-  abbrev Names : ℕ
-  Names = highest nameAbove (termsOf (termBytes b s))
+-- ---- what checking the sheet answers, by the counts that code made
 
-  abbrev Roles : ℕ
-  Roles = max (highest roleAbove (termsOf (termBytes b s))) (highest linkRoles (linksOf (linkBytes b s)))
+module _ (b t : List ℕ) (s : Sections) (ok : Right b s) (k : Counts) (are : k ≡ countsOf (bookOf b)) (o : Sheet)
+    (is : o ≡ sheetOpened t (s .steps) (k .names) (k .roles) (k .individuals)) where
+  opened-is : o ≡ sheetOpened t (bookOf b .grading .steps) (nameCount (bookOf b)) (roleCount (bookOf b)) (individuals (bookOf b))
+  opened-is = is ∙ rw (are, right-counts b s ok .0)
 
-  abbrev Individuals : ℕ
-  Individuals = max (highest membershipIndividuals (membershipsOf (membershipBytes b s))) (highest linkIndividuals (linksOf (linkBytes b s)))
+  pub sheet-fits : (p : Shape) → o ≡ Fits p → SheetFits b t p
+  sheet-fits p e = opened-right t _ _ _ _ p (sym opened-is ∙ e)
 
-  -- what is asked with the book's N, A, R and I is asked with those
-  by-counts : (P : (N A R I : ℕ) → Type 0) (A R I : ℕ) → A ≡ Names → R ≡ Roles → I ≡ Individuals → P (s .steps) A R I
-      → P (bookOf b .grading .steps) (nameCount (bookOf b)) (roleCount (bookOf b)) (individuals (bookOf b))
-  by-counts P A R I a r i h =
-      let B = bookOf b in
-      let k = right-counts b s ok in
-      subst (λ (x : ℕ). P x (nameCount B) (roleCount B) (individuals B)) (sym (k .0))
-      (subst (λ (x : ℕ). P (s .steps) x (roleCount B) (individuals B)) (a ∙ sym (k .1))
-      (subst (λ (x : ℕ). P (s .steps) A x (individuals B)) (r ∙ sym (k .2)) (subst (λ (x : ℕ). P (s .steps) A R x) (i ∙ sym (k .3)) h)))
-
-  pub sheet-fits : (p : Shape) (A R I : ℕ) → A ≡ Names → R ≡ Roles → I ≡ Individuals → SheetRight t p (s .steps) A R I → SheetFits b t p
-  sheet-fits p = by-counts (SheetRight t p)
-
-  pub sheet-asked : (n A R I : ℕ) → A ≡ Names → R ≡ Roles → I ≡ Individuals
-      → firstNo (sheetQuestions t (shapeOf t) (s .steps) A R I) ≡ some n → firstNo (bookSheetQuestions b t) ≡ some n
-  sheet-asked n = by-counts (λ N A R I. firstNo (sheetQuestions t (shapeOf t) N A R I) ≡ some n)
+  pub sheet-asked : (n : ℕ) → o ≡ Unfit n → firstNo (bookSheetQuestions b t) ≡ some n
+  sheet-asked n e = sheet-refused t _ _ _ _ n (sym opened-is ∙ e)
 
 -- an answer's number is the first no
 pub workedNumber-is : (b t : List ℕ) (g : ℕ) → workedNumber (workedOf b t g) ≡ firstNo (workQuestions b t g)

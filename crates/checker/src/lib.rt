@@ -2,7 +2,7 @@
 // no; and beside each the same on the bytes and sections of a book that is opened.
 ghost use mathlib.Core.Path.{_≡_};
 ghost use mathlib.Core.List.{_++_};
-ghost use Prim.Native.Nat.{_<_, _≤_};
+ghost use Prim.Native.Nat.{_≤_};
 ghost use lib.ListN.{length, drop};
 ghost use Rattle.book.specs.Opening.{Right, countedOf};
 ghost use Rattle.book.specs.declared.Counted.the-variants.{Candidates};
@@ -33,15 +33,14 @@ fn grade_counted(b: &[u8], s: Sections, k: u64, c: usize, i: usize) -> Answer
     requires { ⌜ countedOf (now b) ≡ Candidates k ⌝ }
     ensures { λ r. ⌜ r ≡ gradeAnswer (now (b .entry)) c i ⌝ }
 {
-    let terms = s.terms;
-    let rules = s.rules;
     if k <= c as u64 {
         return Answer::Refused(20);
     }
-    if (rules - terms) / 3 <= i {
+    if book::count_terms(s) <= i {
         return Answer::Refused(21);
     }
-    Answer::Grade(grades::grade_of(&b[terms..rules], s.steps, c, i))
+    let logic = book::logic_in(b, s);
+    Answer::Grade(grades::grade_of(book::terms_in(b, s), logic, c, i))
 }
 
 // On an accepted book whose sections are `s`: check 10 is made, and none before.
@@ -72,8 +71,6 @@ fn link_counted(b: &[u8], s: Sections, k: u64, role: u8, c: usize, d: usize) -> 
     requires { ⌜ countedOf (now b) ≡ Candidates k ⌝ }
     ensures { λ r. ⌜ r ≡ linkAnswer (now (b .entry)) role c d ⌝ }
 {
-    let terms = s.terms;
-    let rules = s.rules;
     if k <= c as u64 {
         return Answer::Refused(20);
     }
@@ -83,7 +80,8 @@ fn link_counted(b: &[u8], s: Sections, k: u64, role: u8, c: usize, d: usize) -> 
     if 8 <= role {
         return Answer::Refused(21);
     }
-    Answer::Grade(grades::link_of(&b[terms..rules], s.steps, role, c, d))
+    let logic = book::logic_in(b, s);
+    Answer::Grade(grades::link_of(book::terms_in(b, s), logic, role, c, d))
 }
 
 // On an accepted book whose sections are `s`: check 10 is made, and none before.
@@ -120,15 +118,13 @@ fn fill_values(b: &[u8], s: Sections, sheet: &[u8], p: Shape, values: &mut [u8])
     requires { ⌜ Right (now b) s ⌝ }
     requires { ⌜ SheetFits (now b) (now sheet) p ⌝ }
     requires { ⌜ 4096 ≤ length (now values) ⌝ }
-    ensures { λ r. ⌜ Filled (now (b .entry)) s (now (sheet .entry)) p (now (values .exit)) ⌝ }
+    ensures { λ r. ⌜ Filled (now (b .entry)) (now (sheet .entry)) (now (values .exit)) ⌝ }
 {
-    let terms = s.terms;
-    let rules = s.rules;
     let links = sheets::links_at(p);
     let individuals = sheets::individuals_at(p);
     grids::work_out(
-        &b[terms..rules],
-        s.steps,
+        book::terms_in(b, s),
+        book::logic_in(b, s),
         p.elements,
         p.names,
         p.roles,
@@ -143,24 +139,20 @@ fn verdict_by(b: &[u8], s: Sections, sheet: &[u8], p: Shape, values: &[u8]) -> V
     requires { ⌜ Right (now b) s ⌝ }
     requires { ⌜ SheetFits (now b) (now sheet) p ⌝ }
     requires { ⌜ 4096 ≤ length (now values) ⌝ }
-    requires { ⌜ Filled (now b) s (now sheet) p (now values) ⌝ }
+    requires { ⌜ Filled (now b) (now sheet) (now values) ⌝ }
     ensures { λ r. ⌜ r ≡ verdictOf (bookOf (now (b .entry))) (sheetOf (now (sheet .entry))) ⌝ }
 {
-    let rules = s.rules;
-    let memberships = s.memberships;
-    let claims = s.links;
-    let end = s.end;
     let links = sheets::links_at(p);
     let individuals = sheets::individuals_at(p);
-    let last = sheets::end_at(p);
+    let end = sheets::end_at(p);
     verdicts::verdict(
-        &b[rules..memberships],
-        &b[memberships..claims],
-        &b[claims..end],
+        book::rules_in(b, s),
+        book::memberships_in(b, s),
+        book::links_in(b, s),
         values,
         p.elements,
         &sheet[links..individuals],
-        &sheet[individuals..last],
+        &sheet[individuals..end],
     )
 }
 
@@ -179,10 +171,8 @@ fn work_fitting(
     ensures { λ r. ⌜ r ≡ verdictOf (bookOf (now (b .entry))) (sheetOf (now (sheet .entry))) ⌝ }
     ensures { λ r. ⌜ now (grid .exit) ≡ gridOf (bookOf (now (b .entry)) .grading) (sheetOf (now (sheet .entry))) ++ drop (gridSize (now (b .entry)) (now (sheet .entry))) (now (grid .entry)) ⌝ }
 {
-    let terms = s.terms;
-    let rules = s.rules;
     fill_values(b, s, sheet, p, values);
-    grids::write_grid(values, (rules - terms) / 3, p.elements, grid);
+    grids::write_grid(values, book::count_terms(s), p.elements, grid);
     verdict_by(b, s, sheet, p, values)
 }
 
@@ -192,7 +182,7 @@ fn work_shaped(b: &[u8], s: Sections, sheet: &[u8], p: Shape, grid: &mut [u8]) -
     ensures { λ r. ⌜ r ≡ workedOf (now (b .entry)) (now (sheet .entry)) (length (now (grid .entry))) ⌝ }
     ensures { λ r. ⌜ now (grid .exit) ≡ gridAfter (now (b .entry)) (now (sheet .entry)) (now (grid .entry)) ⌝ }
 {
-    if grid.len() < p.elements * ((s.rules - s.terms) / 3) {
+    if grid.len() < p.elements * book::count_terms(s) {
         return Worked::Refused(16);
     }
     let mut values = [0u8; 4096];
@@ -205,15 +195,8 @@ pub fn work_in(b: &[u8], s: Sections, sheet: &[u8], grid: &mut [u8]) -> Worked
     ensures { λ r. ⌜ r ≡ workedOf (now (b .entry)) (now (sheet .entry)) (length (now (grid .entry))) ⌝ }
     ensures { λ r. ⌜ now (grid .exit) ≡ gridAfter (now (b .entry)) (now (sheet .entry)) (now (grid .entry)) ⌝ }
 {
-    let terms = s.terms;
-    let rules = s.rules;
-    let memberships = s.memberships;
-    let links = s.links;
-    let end = s.end;
-    let names = counts::count_names(&b[terms..rules]);
-    let roles = counts::count_roles(&b[terms..rules], &b[links..end]);
-    let individuals = counts::count_individuals(&b[memberships..links], &b[links..end]);
-    match sheets::open_sheet(sheet, s.steps, names, roles, individuals) {
+    let k = book::counts_in(b, s);
+    match sheets::open_sheet(sheet, s.steps, k.names, k.roles, k.individuals) {
         Sheet::Refused(n) => Worked::Refused(n),
         Sheet::Right(p) => work_shaped(b, s, sheet, p, grid),
     }

@@ -9,6 +9,7 @@ use native.Mathlib.Decide.{ℕ-discrete, decLt}
 use native.Mathlib.Omega.{arith}
 use lib.ListN.{length, getD, set, take}
 use lib.Seq.{getD-set-same, getD-set-other, set-out}
+use Rattle.gradings.specs.declared.Logic.{Logic}
 use Rattle.grades.specs.Rows.{rowAt}
 use Rattle.domains.specs.Tables.{Allowed}
 use Rattle.domains.specs.Consistent.{Fits, Consistent, Problem}
@@ -38,24 +39,24 @@ module _ (s : ℕ → ℕ) (j e : ℕ) where
       go (yes z) = absurd (h z)
       go (no _) = refl
 
-module _ (N : ℕ) (net ends : List ℕ) (count : ℕ) (rows : List ℕ) (n : ℕ) where
-  pub thinned-none : (table : List ℕ) → Thinned N net ends count rows n table table
+module _ (lg : Logic) (net ends : List ℕ) (count : ℕ) (rows : List ℕ) (n : ℕ) where
+  pub thinned-none : (table : List ℕ) → Thinned lg net ends count rows n table table
   thinned-none table = record { fewer = λ x h. h; keeps = λ s h. (s, h, λ j l. omega arith) }
 
-  pub thinned-then : (a b c : List ℕ) → Thinned N net ends count rows n a b → Thinned N net ends count rows n b c → Thinned N net ends count rows n a c
+  pub thinned-then : (a b c : List ℕ) → Thinned lg net ends count rows n a b → Thinned lg net ends count rows n b c → Thinned lg net ends count rows n a c
   thinned-then a b c w u = record {
     fewer = λ x h. w .fewer x (u .fewer x h);
     keeps = λ s h. let v = w .keeps s h in let z = u .keeps (v .0) (v .1) in (z .0, z .1, λ j l. omega (arith, v .2 j l, z .2 j l));
   }
 
   -- one individual, by what is read of it
-  pub thinned-at : (m : ℕ) → Problem N m net ends count n rows → (j : ℕ) → j < n → (seen : List ℕ) → Read net ends j 8 seen
+  pub thinned-at : (m : ℕ) → Problem lg m net ends count n rows → (j : ℕ) → j < n → (seen : List ℕ) → Read net ends j 8 seen
       → (r : ℕ) (list : List ℕ) → Listed seen 64 r list → 64 ≤ length list → (old new : List ℕ) → ThinnedAt (take r list) rows j count old new
-      → Thinned N net ends count rows n old new
+      → Thinned lg net ends count rows n old new
   thinned-at m p j in-j seen read r list listed long old new w = record { fewer = w .fewer; keeps = keeps }
     where
-      keeps : (s : ℕ → ℕ) → Consistent N net ends count rows n old s
-          → (t : ℕ → ℕ) × Consistent N net ends count rows n new t × ((k : ℕ) → k < n → t k ≤ s k)
+      keeps : (s : ℕ → ℕ) → Consistent lg net ends count rows n old s
+          → (t : ℕ → ℕ) × Consistent lg net ends count rows n new t × ((k : ℕ) → k < n → t k ≤ s k)
       keeps s h = (t, record { below = below; allowed = allowed; fits = fits }, no-later)
         where
           u : (e : ℕ) × (e ≤ s j) × Allowed new j e × Alike (take r list) (rowAt rows e) (rowAt rows (s j))
@@ -84,14 +85,14 @@ module _ (N : ℕ) (net ends : List ℕ) (count : ℕ) (rows : List ℕ) (n : �
               (λ z. rw (other k z) (w .elsewhere k (s k) z (h .below k l) (h .allowed k l)))
 
           -- the new candidate of j and that of another
-          fits-one : (i : ℕ) → i < n → ¬ (i ≡ j) → Fits N net ends j i (rowAt rows (u .0)) (rowAt rows (s i))
+          fits-one : (i : ℕ) → i < n → ¬ (i ≡ j) → Fits lg net ends j i (rowAt rows (u .0)) (rowAt rows (s i))
           fits-one i l apart =
-              same-fits N m net ends count n rows p j i (omega (arith, p .individuals-few)) (omega (arith, p .individuals-few)) apart seen read
+              same-fits lg m net ends count n rows p j i (omega (arith, p .individuals-few)) (omega (arith, p .individuals-few)) apart seen read
               (rowAt rows (s j)) (rowAt rows (u .0))
               (λ x k e. sym (listed-same seen r list listed long (rowAt rows (u .0)) (rowAt rows (s j)) (u .3) x k e))
               (rowAt rows (s i)) (h .fits j i in-j l apart)
 
-          fits : (k i : ℕ) → k < n → i < n → ¬ (i ≡ k) → Fits N net ends k i (rowAt rows (t k)) (rowAt rows (t i))
+          fits : (k i : ℕ) → k < n → i < n → ¬ (i ≡ k) → Fits lg net ends k i (rowAt rows (t k)) (rowAt rows (t i))
           fits k i l g apart = dite (ℕ-discrete k j)
               (λ z. let y : ¬ (i ≡ j) = λ e. apart (e ∙ sym z) in rw (here k z, other i y, z) (fits-one i g y))
               (λ y. dite (ℕ-discrete i j)

@@ -9,6 +9,7 @@ use native.Mathlib.Omega.{arith}
 use lib.ListN.{length, getD, set, take}
 use lib.Seq.{getD-set-same, getD-set-other, getD-take, length-take-le}
 use borrow.Author.Count.{below-more}
+use Rattle.gradings.specs.declared.Logic.{Logic}
 use Rattle.network.specs.Constraints.{constraintCount, constraintAt, AllMet, Right}
 use Rattle.network.specs.Network.{between}
 use Rattle.network.specs.declared.Constraint.{Constraint}
@@ -19,8 +20,8 @@ use Rattle.classes.specs.Classes.{Alike}
 -- ---- noting
 
 -- the term that a constraint on terms below m reads
-pub read-lt : (N m e : ℕ) (k : Constraint) → e ≤ 1 → Right N m k → readAt e k < m
-read-lt N m e k l r = dite (ℕ-discrete e 0) (λ z. rw z (r .own-lt)) (λ n. let z : e ≡ 1 = omega arith in rw z (r .child-lt))
+pub read-lt : (lg : Logic) (m e : ℕ) (k : Constraint) → e ≤ 1 → Right lg m k → readAt e k < m
+read-lt lg m e k l r = dite (ℕ-discrete e 0) (λ z. rw z (r .own-lt)) (λ n. let z : e ≡ 1 = omega arith in rw z (r .child-lt))
 
 -- a term more is read
 pub more-set : (seen : List ℕ) (t : ℕ) → t < length seen → More seen (set seen t 1)
@@ -101,25 +102,25 @@ module _ (seen : List ℕ) where
 
 -- ---- rows with the same grades where these are read
 
-module _ (N : ℕ) (s a b v : List ℕ) where
+module _ (lg : Logic) (s a b v : List ℕ) where
   -- at the source, and at the target
   met-source : ((y : ℕ) → y < constraintCount s → getD a (constraintAt s y .own) 0 ≡ getD b (constraintAt s y .own) 0)
-      → AllMet N s a v → AllMet N s b v
-  met-source same f y l = (λ k. rw (← same y l) (f y l .0 k), λ k. rw (← same y l) (f y l .1 k))
+      → AllMet lg s a v → AllMet lg s b v
+  met-source same f y l = rw (← same y l) (f y l)
 
   met-target : ((y : ℕ) → y < constraintCount s → getD a (constraintAt s y .child) 0 ≡ getD b (constraintAt s y .child) 0)
-      → AllMet N s v a → AllMet N s v b
-  met-target same f y l = (λ k. rw (← same y l) (f y l .0 k), λ k. rw (← same y l) (f y l .1 k))
+      → AllMet lg s v a → AllMet lg s v b
+  met-target same f y l = rw (← same y l) (f y l)
 
 -- both are compatible with the same row of another individual
-pub same-fits : (N m : ℕ) (net ends : List ℕ) (count n : ℕ) (rows : List ℕ) → Problem N m net ends count n rows
+pub same-fits : (lg : Logic) (m : ℕ) (net ends : List ℕ) (count n : ℕ) (rows : List ℕ) → Problem lg m net ends count n rows
     → (j i : ℕ) → j < 8 → i < 8 → ¬ (i ≡ j) → (seen : List ℕ) → Read net ends j 8 seen → (a b : List ℕ) → ((t : ℕ) → t < 64 → getD seen t 0 ≡ 1 → getD a t 0 ≡ getD b t 0)
-    → (v : List ℕ) → Fits N net ends j i a v → Fits N net ends j i b v
-same-fits N m net ends count n rows p j i lj li apart seen read a b same v f = (
-  met-source N (between net ends j i) a b v
+    → (v : List ℕ) → Fits lg net ends j i a v → Fits lg net ends j i b v
+same-fits lg m net ends count n rows p j i lj li apart seen read a b same v f = (
+  met-source lg (between net ends j i) a b v
       (λ y l. same (constraintAt (between net ends j i) y .own) (omega (arith, p .wired .few, p .wired .right (8 * j + i) (omega arith) y l .own-lt))
       (read i li apart .0 y l)) (f .0),
-  met-target N (between net ends i j) a b v
+  met-target lg (between net ends i j) a b v
       (λ y l. same (constraintAt (between net ends i j) y .child) (omega (arith, p .wired .few, p .wired .right (8 * i + j) (omega arith) y l .child-lt))
       (read i li apart .1 y l)) (f .1),
 )

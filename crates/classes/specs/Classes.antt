@@ -5,6 +5,7 @@ use mathlib.Core.Bool.{Bool, true, false}
 use mathlib.Core.List.{List}
 use Prim.Native.Nat.{ℕ, _+_, _-_, _≤_, _<_}
 use lib.ListN.{length, getD, set}
+use Rattle.gradings.specs.declared.Logic.{Logic}
 use Rattle.grades.specs.Rows.{rowAt}
 use Rattle.domains.specs.Tables.{Allowed}
 use Rattle.domains.specs.Consistent.{Consistent}
@@ -33,7 +34,7 @@ pub record Thinning (list rows : List ℕ) (j count c : ℕ) (old new memory : L
   pub kept : (h : ℕ) → 0 < getD memory h 0 → (getD memory h 0 ≤ c) × Allowed new j (getD memory h 0 - 1)
 
 -- candidates were taken away, and whatever placement is consistent, one that is nowhere later still is
-pub record Thinned (N : ℕ) (net ends : List ℕ) (count : ℕ) (rows : List ℕ) (n : ℕ) (old new : List ℕ) : Type 0 where
+pub record Thinned (l : Logic) (net ends : List ℕ) (count : ℕ) (rows : List ℕ) (n : ℕ) (old new : List ℕ) : Type 0 where
   pub fewer : (x : ℕ) → getD new x 0 ≡ 1 → getD old x 0 ≡ 1
-  pub keeps : (s : ℕ → ℕ) → Consistent N net ends count rows n old s
-      → (t : ℕ → ℕ) × Consistent N net ends count rows n new t × ((j : ℕ) → j < n → t j ≤ s j)
+  pub keeps : (s : ℕ → ℕ) → Consistent l net ends count rows n old s
+      → (t : ℕ → ℕ) × Consistent l net ends count rows n new t × ((j : ℕ) → j < n → t j ≤ s j)

@@ -9,6 +9,7 @@ ghost use Rattle.domains.specs.Consistent.{Problem};
 ghost use Rattle.classes.specs.Reads.{readAt, ListRead, Read, More, Listed};
 ghost use Rattle.classes.specs.Classes.{Alike, Matched, ThinnedAt, Thinned};
 use grades::row_at;
+use gradings::Logic;
 use network::Constraint;
 use network::between;
 use network::constraint_at;
@@ -28,8 +29,8 @@ fn read_at(end: u8, k: Constraint) -> usize
 }
 
 // Notes what the constraints of a list read at this end.
-fn note_list(steps: u8, s: &[u8], end: u8, terms: usize, seen: &mut [u8])
-    requires { ⌜ AllRight steps terms (now s) × (terms ≤ length (now seen)) × (end ≤ 1) ⌝ }
+fn note_list(logic: Logic, s: &[u8], end: u8, terms: usize, seen: &mut [u8])
+    requires { ⌜ AllRight logic terms (now s) × (terms ≤ length (now seen)) × (end ≤ 1) ⌝ }
     ensures { λ _. ⌜ More (now (seen .entry)) (now (seen .exit)) ⌝ }
     ensures { λ _. ⌜ ListRead (now (s .entry)) end (constraintCount (now (s .entry))) (now (seen .exit)) ⌝ }
 {
@@ -42,8 +43,8 @@ fn note_list(steps: u8, s: &[u8], end: u8, terms: usize, seen: &mut [u8])
 }
 
 // Notes what those between individual `j` and the others read of `j`.
-fn note_all(steps: u8, net: &[u8], ends: &[u16], j: usize, terms: usize, seen: &mut [u8])
-    requires { ⌜ Wired steps terms (now net) (now ends) ⌝ }
+fn note_all(logic: Logic, net: &[u8], ends: &[u16], j: usize, terms: usize, seen: &mut [u8])
+    requires { ⌜ Wired logic terms (now net) (now ends) ⌝ }
     requires { ⌜ (j < 8) × (terms ≤ length (now seen)) ⌝ }
     ensures { λ _. ⌜ Read (now (net .entry)) (now (ends .entry)) j 8 (now (seen .exit)) ⌝ }
 {
@@ -54,8 +55,8 @@ fn note_all(steps: u8, net: &[u8], ends: &[u16], j: usize, terms: usize, seen: &
         if i == j {
             continue;
         }
-        note_list(steps, between(net, ends, j, i), 0, terms, seen);
-        note_list(steps, between(net, ends, i, j), 1, terms, seen);
+        note_list(logic, between(net, ends, j, i), 0, terms, seen);
+        note_list(logic, between(net, ends, i, j), 1, terms, seen);
     }
 }
 
@@ -164,7 +165,7 @@ fn thin_by(list: &[u8], rows: &[u8], table: &mut [u8], memory: &mut [u16], j: us
 
 // The same, by what the constraints read of `j`, with room that is lent.
 fn thin_in(
-    steps: u8,
+    logic: Logic,
     net: &[u8],
     ends: &[u16],
     terms: usize,
@@ -177,19 +178,19 @@ fn thin_in(
     memory: &mut [u16],
     j: usize,
 )
-    requires { ⌜ Problem steps terms (now net) (now ends) count individuals (now rows) ⌝ }
+    requires { ⌜ Problem logic terms (now net) (now ends) count individuals (now rows) ⌝ }
     requires { ⌜ (j < individuals) × (131072 ≤ length (now table)) × (64 ≤ length (now seen)) × (64 ≤ length (now list)) × (16384 ≤ length (now memory))
         × ((h : ℕ) → getD (now memory) h 0 ≡ 0) ⌝ }
-    ensures { λ _. ⌜ Thinned steps (now (net .entry)) (now (ends .entry)) count (now (rows .entry)) individuals (now (table .entry)) (now (table .exit)) ⌝ }
+    ensures { λ _. ⌜ Thinned logic (now (net .entry)) (now (ends .entry)) count (now (rows .entry)) individuals (now (table .entry)) (now (table .exit)) ⌝ }
 {
-    note_all(steps, net, ends, j, terms, seen);
+    note_all(logic, net, ends, j, terms, seen);
     let m = list_read(seen, list);
     thin_by(&list[..m], rows, table, memory, j, count);
 }
 
 // The same, with the room made here.
 fn thin_one(
-    steps: u8,
+    logic: Logic,
     net: &[u8],
     ends: &[u16],
     terms: usize,
@@ -199,15 +200,15 @@ fn thin_one(
     table: &mut [u8],
     j: usize,
 )
-    requires { ⌜ Problem steps terms (now net) (now ends) count individuals (now rows) ⌝ }
+    requires { ⌜ Problem logic terms (now net) (now ends) count individuals (now rows) ⌝ }
     requires { ⌜ (j < individuals) × (131072 ≤ length (now table)) ⌝ }
-    ensures { λ _. ⌜ Thinned steps (now (net .entry)) (now (ends .entry)) count (now (rows .entry)) individuals (now (table .entry)) (now (table .exit)) ⌝ }
+    ensures { λ _. ⌜ Thinned logic (now (net .entry)) (now (ends .entry)) count (now (rows .entry)) individuals (now (table .entry)) (now (table .exit)) ⌝ }
 {
     let mut seen = [0u8; 64];
     let mut list = [0u8; 64];
     let mut memory = [0u16; 16384];
     thin_in(
-        steps,
+        logic,
         net,
         ends,
         terms,
@@ -224,7 +225,7 @@ fn thin_one(
 
 // Keeps of each individual's candidates the first of every class.
 pub fn thin(
-    steps: u8,
+    logic: Logic,
     net: &[u8],
     ends: &[u16],
     terms: usize,
@@ -233,13 +234,13 @@ pub fn thin(
     rows: &[u8],
     table: &mut [u8],
 )
-    requires { ⌜ Problem steps terms (now net) (now ends) count individuals (now rows) ⌝ }
+    requires { ⌜ Problem logic terms (now net) (now ends) count individuals (now rows) ⌝ }
     requires { ⌜ 131072 ≤ length (now table) ⌝ }
-    ensures { λ _. ⌜ Thinned steps (now (net .entry)) (now (ends .entry)) count (now (rows .entry)) individuals (now (table .entry)) (now (table .exit)) ⌝ }
+    ensures { λ _. ⌜ Thinned logic (now (net .entry)) (now (ends .entry)) count (now (rows .entry)) individuals (now (table .entry)) (now (table .exit)) ⌝ }
 {
     let mut j = 0;
     while j < individuals {
-        thin_one(steps, net, ends, terms, count, individuals, rows, table, j);
+        thin_one(logic, net, ends, terms, count, individuals, rows, table, j);
         j += 1;
     }
 }

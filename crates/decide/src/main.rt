@@ -8,6 +8,7 @@ ghost use Rattle.book.specs.Opening.{Right};
 use book::Opened;
 use book::Sections;
 use decider::Decision;
+use gradings::Logic;
 use libc::STDIN_FILENO;
 use libc::STDOUT_FILENO;
 
@@ -44,15 +45,15 @@ fn print_outcome(outcome: u8, survivors: usize) {
 }
 
 // A line for each candidate that is marked, in ascending order; 256 candidates' lines fit in the buffer.
-fn print_types(terms: &[u8], steps: u8, marks: &[u8])
+fn print_types(terms: &[u8], logic: Logic, marks: &[u8])
     requires { ⌜ TermsRight (now terms) ⌝ }
-    requires { ⌜ (termCount (now terms) ≤ 64) × (steps < 10) ⌝ }
+    requires { ⌜ (termCount (now terms) ≤ 64) × (logic .steps < 10) ⌝ }
 {
     let mut out = io::large_buffer();
     let mut first = 0;
     while first < marks.len() {
         let count = lesser(256, marks.len() - first);
-        let end = printout::type_lines(&mut out, terms, steps, marks, first, count);
+        let end = printout::type_lines(&mut out, terms, logic, marks, first, count);
         write(&out, end);
         first += count;
     }
@@ -62,9 +63,7 @@ fn print_types(terms: &[u8], steps: u8, marks: &[u8])
 fn print_survivors(b: &[u8], s: Sections, marks: &[u8])
     requires { ⌜ Right (now b) s ⌝ }
 {
-    let terms = s.terms;
-    let rules = s.rules;
-    print_types(&b[terms..rules], s.steps, marks);
+    print_types(book::terms_in(b, s), book::logic_in(b, s), marks);
 }
 
 // A line for each individual, of which there are at most 8.
@@ -81,11 +80,8 @@ fn print_placement(b: &[u8], s: Sections, placement: &[u8])
     requires { ⌜ Right (now b) s ⌝ }
     requires { ⌜ 16 ≤ length (now placement) ⌝ }
 {
-    let memberships = s.memberships;
-    let links = s.links;
-    let end = s.end;
-    let count = counts::count_individuals(&b[memberships..links], &b[links..end]);
-    print_individuals(placement, count);
+    let counts = book::counts_in(b, s);
+    print_individuals(placement, counts.individuals);
 }
 
 // Decides a book that was opened, and prints the decision.

@@ -1,4 +1,4 @@
--- Laws of deciding: which checks that were made give which answer, marks and placement; and what the sections of an accepted book give the code.
+-- Laws of deciding: which checks that were made give which answer, marks and placement.
 -- Assumes nothing.
 use mathlib.Core.Path.{_≡_, refl, sym, ap, ap₂, subst, _∙_}
 use mathlib.Core.Bool.{Bool, true, false}
@@ -15,17 +15,13 @@ use Rattle.chain.proofs.Lists.{at-mem}
 use Rattle.chain.proofs.Questions.{first-empty, first-yes, first-no, first-none, first-some-append, first-none-append}
 use Rattle.semantics.specs.Books.{Book, individuals}
 use Rattle.semantics.specs.Candidates.{candidates}
-use Rattle.sections.specs.Books.{bookOfSections}
-use Rattle.book.specs.Layout.{termBytes, ruleBytes, membershipBytes, linkBytes}
-use Rattle.book.specs.Reading.{bookAt, bookOf}
-use Rattle.book.specs.Opening.{candidateQuestions, Right}
+use Rattle.book.specs.Reading.{bookOf}
+use Rattle.book.specs.Opening.{candidateQuestions}
 use Rattle.book.specs.Writing.{wordBytes}
-use Rattle.book.specs.declared.Sections.{Sections}
-use Rattle.book.proofs.Reading.{right-book}
 use Rattle.elimination.specs.Marks.{marksOf, marked}
 use Rattle.elimination.proofs.Marks.{length-marks, marked-marks}
 use Rattle.elimination.proofs.Survivors.{survivors-ascending, survivors-sound}
-use Rattle.placement.specs.Outcome.{HoldsAt, survivorsOf, holds?, placementAmong, placement, outcomeOf, outcome}
+use Rattle.placement.specs.Outcome.{HoldsAt, survivorsOf, placement, outcomeOf, outcome}
 use Rattle.placement.specs.Dictionary.{Finds}
 use Rattle.placement.proofs.Outcome.{placement-finds}
 use Rattle.placer.specs.Walk.{placed}
@@ -242,28 +238,3 @@ module _ (seats q : List ℕ) where
   pub placement-end : (i : ℕ) (l : List ℕ) → i ≡ length seats → l ≡ flatMap wordBytes (take i seats) ++ drop (2 * i) q
       → l ≡ flatMap wordBytes seats ++ drop (2 * length seats) q
   placement-end i l h e = e ∙ rw (h, take-length)
-
--- ---- an accepted book's sections
-
-module _ (b : List ℕ) (s : Sections) (ok : Right b s) where
-  -- the rules play no part in placing
-  placing-same : (N : ℕ) (ts rs ms ls xs : List ℕ) → placementAmong (bookOfSections N ts [] ms ls) xs ≡ placementAmong (bookOfSections N ts rs ms ls) xs
-  unfolding placementAmong individuals holds?
-  placing-same N ts rs ms ls xs = refl
-
-  pub placing-is : (xs : List ℕ) → xs ≡ survivorsOf (bookOf b)
-      → placementAmong (bookOfSections (s .steps) (termBytes b s) [] (membershipBytes b s) (linkBytes b s)) xs ≡ placement (bookOf b)
-  unfolding placement
-  placing-is xs e =
-      placing-same (s .steps) (termBytes b s) (ruleBytes b s) (membershipBytes b s) (linkBytes b s) xs
-      ∙ ap₂ placementAmong (right-book b s ok) e
-
-  pub individuals-is : individuals (bookOfSections (s .steps) (termBytes b s) [] (membershipBytes b s) (linkBytes b s)) ≡ individuals (bookOf b)
-  unfolding individuals
-  individuals-is = ap individuals (right-book b s ok)
-
-  pub count-is : (count : ℕ) → candidates (bookOf b .grading) ≡ count → count ≡ candidates (bookAt b s .grading)
-  count-is count e = sym (ap (λ (B : Book). candidates (B .grading)) (right-book b s ok) ∙ e)
-
-  pub survivors-are : survivorsOf (bookAt b s) ≡ survivorsOf (bookOf b)
-  survivors-are = ap survivorsOf (right-book b s ok)

@@ -1,2 +1,3 @@
+pub mod Equipped
 pub mod Deciding
 pub mod Listed

@@ -9,13 +9,15 @@ ghost use Rattle.book.specs.Opening.{Right, countedOf};
 ghost use Rattle.book.specs.Reading.{bookOf};
 ghost use Rattle.book.specs.Writing.{wordBytes};
 ghost use Rattle.book.specs.declared.Counted.the-variants.{Candidates};
-ghost use Rattle.elimination.specs.Marks.{marksOf, marked};
+ghost use Rattle.elimination.specs.Marks.{marked};
 ghost use Rattle.placement.specs.Outcome.{survivorsOf, placement as placementOf, outcome};
 ghost use Rattle.placer.specs.Walk.{placed};
 ghost use Rattle.decider.specs.Deciding.{decision, markedIn, placedIn, decisionOf, marksAfter, placementAfter, HoldsPlacement};
+ghost use Rattle.decider.specs.Equipped.{Equipped};
 use book::Counted;
 use book::Opened;
 use book::Sections;
+use gradings::Logic;
 
 // The number of the first check that says no, or the outcome and the number of survivors.
 pub enum Decision {
@@ -38,22 +40,20 @@ fn write_placement(seats: &[u16], placement: &mut [u8])
     }
 }
 
-// ---- an accepted book, its sections handed on as stretches
+// ---- an accepted book, by the logic that stands for its grading and its quantified terms
 
 // Marks the survivors among the candidates, and counts them.
-fn mark(b: &[u8], s: Sections, count: usize, marks: &mut [u8]) -> usize
-    requires { ⌜ Right (now b) s ⌝ }
+fn mark(b: &[u8], s: Sections, logic: Logic, slots: &[u8], count: usize, marks: &mut [u8]) -> usize
+    requires { ⌜ Equipped (now b) s logic (now slots) ⌝ }
     requires { ⌜ (candidates (bookOf (now b) .grading) ≡ count) × (count ≤ 16384) × (count ≤ length (now marks)) ⌝ }
     ensures { λ r. ⌜ r ≡ length (survivorsOf (bookOf (now (b .entry)))) ⌝ }
     ensures { λ _. ⌜ now (marks .exit) ≡ markedIn (bookOf (now (b .entry))) (now (marks .entry)) ⌝ }
 {
-    let terms = s.terms;
-    let rules = s.rules;
-    let memberships = s.memberships;
     eliminator::eliminate(
-        &b[terms..rules],
-        &b[rules..memberships],
-        s.steps,
+        logic,
+        book::terms_in(b, s),
+        slots,
+        book::rules_in(b, s),
         count,
         marks,
     )
@@ -63,26 +63,24 @@ fn mark(b: &[u8], s: Sections, count: usize, marks: &mut [u8]) -> usize
 fn seat(
     b: &[u8],
     s: Sections,
+    logic: Logic,
+    slots: &[u8],
     count: usize,
     marks: &[u8],
     individuals: usize,
     seats: &mut [u16],
 ) -> bool
-    requires { ⌜ Right (now b) s ⌝ }
+    requires { ⌜ Equipped (now b) s logic (now slots) ⌝ }
     requires { ⌜ (count ≤ 16384) × (count ≤ length (now marks)) × (marked (now marks) count ≡ survivorsOf (bookOf (now b))) ⌝ }
     requires { ⌜ (individuals ≡ individualsOf (bookOf (now b))) × (individuals ≤ length (now seats)) ⌝ }
     ensures { λ r. ⌜ placed r (take individuals (now (seats .exit))) ≡ placementOf (bookOf (now (b .entry))) ⌝ }
 {
-    let terms = s.terms;
-    let rules = s.rules;
-    let memberships = s.memberships;
-    let links = s.links;
-    let end = s.end;
     placer::place(
-        &b[terms..rules],
-        s.steps,
-        &b[memberships..links],
-        &b[links..end],
+        logic,
+        book::terms_in(b, s),
+        slots,
+        book::memberships_in(b, s),
+        book::links_in(b, s),
         marks,
         count,
         individuals,
@@ -90,35 +88,27 @@ fn seat(
     )
 }
 
-// How many individuals the claims are about.
-fn individuals_in(b: &[u8], s: Sections) -> usize
-    requires { ⌜ Right (now b) s ⌝ }
-    ensures { λ r. ⌜ (r ≡ individualsOf (bookOf (now (b .entry)))) × (r ≤ 8) ⌝ }
-{
-    let memberships = s.memberships;
-    let links = s.links;
-    let end = s.end;
-    counts::count_individuals(&b[memberships..links], &b[links..end])
-}
-
 // Places the individuals at the survivors that are marked, and writes the placement: outcome 1, or 2 where there is none.
 fn place_individuals(
     b: &[u8],
     s: Sections,
+    logic: Logic,
+    slots: &[u8],
     count: usize,
     marks: &[u8],
     placement: &mut [u8],
     seats: &mut [u16],
 ) -> u8
-    requires { ⌜ Right (now b) s ⌝ }
+    requires { ⌜ Equipped (now b) s logic (now slots) ⌝ }
     requires { ⌜ (count ≤ 16384) × (count ≤ length (now marks)) × (marked (now marks) count ≡ survivorsOf (bookOf (now b))) ⌝ }
     requires { ⌜ (0 < length (survivorsOf (bookOf (now b)))) × (16 ≤ length (now placement)) × (8 ≤ length (now seats)) ⌝ }
     ensures { λ r. ⌜ r ≡ outcome (bookOf (now (b .entry))) ⌝ }
     ensures { λ _. ⌜ now (placement .exit) ≡ placedIn (placementOf (bookOf (now (b .entry)))) (now (placement .entry)) ⌝ }
     ensures { λ _. ⌜ HoldsPlacement (now (b .entry)) (now (seats .exit)) ⌝ }
 {
-    let individuals = individuals_in(b, s);
-    if !seat(b, s, count, marks, individuals, seats) {
+    let counts = book::counts_in(b, s);
+    let individuals = counts.individuals;
+    if !seat(b, s, logic, slots, count, marks, individuals, seats) {
         return 2;
     }
     write_placement(&seats[..individuals], placement);
@@ -126,6 +116,33 @@ fn place_individuals(
 }
 
 // Decides, where every check says yes.
+fn decide_by(
+    b: &[u8],
+    s: Sections,
+    logic: Logic,
+    slots: &[u8],
+    count: usize,
+    marks: &mut [u8],
+    placement: &mut [u8],
+    seats: &mut [u16],
+) -> Decision
+    requires { ⌜ Equipped (now b) s logic (now slots) ⌝ }
+    requires { ⌜ (candidates (bookOf (now b) .grading) ≡ count) × (count ≤ 16384) × (count ≤ length (now marks)) ⌝ }
+    requires { ⌜ (16 ≤ length (now placement)) × (8 ≤ length (now seats)) ⌝ }
+    ensures { λ r. ⌜ r ≡ decision (bookOf (now (b .entry))) ⌝ }
+    ensures { λ _. ⌜ now (marks .exit) ≡ markedIn (bookOf (now (b .entry))) (now (marks .entry)) ⌝ }
+    ensures { λ _. ⌜ now (placement .exit) ≡ placedIn (placementOf (bookOf (now (b .entry)))) (now (placement .entry)) ⌝ }
+    ensures { λ _. ⌜ HoldsPlacement (now (b .entry)) (now (seats .exit)) ⌝ }
+{
+    let survivors = mark(b, s, logic, slots, count, marks);
+    if survivors == 0 {
+        return Decision::Decided(3, 0);
+    }
+    let outcome = place_individuals(b, s, logic, slots, count, marks, placement, seats);
+    Decision::Decided(outcome, survivors)
+}
+
+// The same, with the logic and the slots made here, once.
 fn decide_checked(
     b: &[u8],
     s: Sections,
@@ -142,12 +159,10 @@ fn decide_checked(
     ensures { λ _. ⌜ now (placement .exit) ≡ placedIn (placementOf (bookOf (now (b .entry)))) (now (placement .entry)) ⌝ }
     ensures { λ _. ⌜ HoldsPlacement (now (b .entry)) (now (seats .exit)) ⌝ }
 {
-    let survivors = mark(b, s, count, marks);
-    if survivors == 0 {
-        return Decision::Decided(3, 0);
-    }
-    let outcome = place_individuals(b, s, count, marks, placement, seats);
-    Decision::Decided(outcome, survivors)
+    let logic = book::logic_in(b, s);
+    let mut slots = [0u8; 64];
+    let m = slots::collect(book::terms_in(b, s), &mut slots);
+    decide_by(b, s, logic, &slots[..4 * m], count, marks, placement, seats)
 }
 
 // Checks 11 and 12, and decides. The seats take the placement as numbers.

@@ -12,7 +12,7 @@ use Rattle.chain.specs.Digits.{digit}
 use Rattle.semantics.specs.Terms.{value, deep}
 use Rattle.semantics.specs.Books.{Book, individuals}
 use Rattle.semantics.specs.Candidates.{bearer, opens?, places, homeAs, home, slot, candidates, gradeIn}
-use Rattle.semantics.specs.Links.{link}
+use Rattle.semantics.specs.Links.{linkBetween}
 use Rattle.sections.specs.Terms.{termsRight?, termsOf}
 use Rattle.sections.specs.Rules.{rulesRight?, rulesOf}
 use Rattle.sections.specs.Claims.{membershipsRight?, linksRight?, membershipsOf, linksOf}
@@ -43,7 +43,7 @@ pub printed-book : printoutOf (printed 2) ≡ bytes "outcome 1 survivors 1\ntype
 unfolding printoutOf decidedLines outcomeLine typeLines typeLine individualLines individualLine spaced labelled newline decimal spelled bytes flatMap decLt
     firstNo says lengthRight? editionRight? stepsRight? countsRight? laidOut? termsRight? rulesRight? membershipsRight? linksRight? fewCandidates?
     bookOf sectionsOf wordAt termsOf rulesOf membershipsOf linksOf table outcome placement placementAmong tryEach holds? survivors
-    settle fits? each? keep from candidates places gradeIn value deep slot home homeAs bearer first opens? rank digit link individuals highest rowOf
+    settle fits? each? keep from candidates places gradeIn value deep slot home homeAs bearer first opens? rank digit linkBetween individuals highest rowOf
 printed-book = refl
 
 -- The program decides with a marks buffer in which no byte is 1 and a placement buffer that suffices, and prints from them in this order: the

@@ -12,7 +12,7 @@ use Rattle.semantics.specs.Terms.{Term, name, all, value, deep}
 use Rattle.semantics.specs.Interpretations.{graded}
 use Rattle.semantics.specs.Books.{Book, individuals}
 use Rattle.semantics.specs.Candidates.{bearer, opens?, places, homeAs, home, slot, candidates, gradeIn}
-use Rattle.semantics.specs.Links.{link}
+use Rattle.semantics.specs.Links.{linkBetween, link}
 use Rattle.chain.specs.Decisions.{says}
 use Rattle.chain.specs.Questions.{firstNo}
 use Rattle.sections.specs.Terms.{termsRight?, termsOf}
@@ -51,7 +51,7 @@ linkReadings =
     ∷ reads 4 (Term.some 0 0) 1 3 1 ∷ reads 4 (Term.some 0 0) 2 2 4 ∷ []
 
 pub links-read : map linkOf linkReadings ≡ map (λ q. q .link-of) linkReadings
-unfolding link gradeIn value deep slot home homeAs bearer first opens? rank digit
+unfolding linkBetween gradeIn value deep slot home homeAs bearer first opens? rank digit
 links-read = refl
 
 -- ---- the books
@@ -137,11 +137,13 @@ unfolding firstNo says lengthRight? editionRight? stepsRight? countsRight? laidO
 books-accepted = refl
 
 pub books-read : map (λ q. answer (bookOf (q .bytes))) bookReadings ≡ map (λ q. q .says) bookReadings
-unfolding bookOf sectionsOf wordAt termsOf rulesOf membershipsOf linksOf table outcome placement placementAmong individuals highest tryEach holds? survivors settle fits? from keep each? candidates places link gradeIn value deep slot home homeAs bearer first opens? rank digit
+unfolding bookOf sectionsOf wordAt termsOf rulesOf membershipsOf linksOf table outcome placement placementAmong individuals highest tryEach holds? survivors
+    settle fits? from keep each? candidates places linkBetween gradeIn value deep slot home homeAs bearer first opens? rank digit
 books-read = refl
 
 -- and so deciding answers, with buffers that suffice
 pub books-decided : map (λ q. decisionOf (q .bytes) 16384 16) bookReadings ≡ map (λ q. Decided (q .says .outcome-is) (length (q .says .survivors-are))) bookReadings
 unfolding decisionOf firstNo says lengthRight? editionRight? stepsRight? countsRight? laidOut? termsRight? rulesRight? membershipsRight? linksRight? fewCandidates?
-    bookOf sectionsOf wordAt termsOf rulesOf membershipsOf linksOf table outcome placement placementAmong individuals highest tryEach holds? survivors settle fits? from keep each? candidates places link gradeIn value deep slot home homeAs bearer first opens? rank digit
+    bookOf sectionsOf wordAt termsOf rulesOf membershipsOf linksOf table outcome placement placementAmong individuals highest tryEach holds? survivors
+    settle fits? from keep each? candidates places linkBetween gradeIn value deep slot home homeAs bearer first opens? rank digit
 books-decided = refl

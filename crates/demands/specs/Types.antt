@@ -8,18 +8,19 @@ use mathlib.Core.List.{List}
 use Prim.Native.Nat.{ℕ, _+_, _^_, _≤_, _<_}
 use lib.ListN.{length}
 use Rattle.chain.specs.Digits.{digit}
+use Rattle.chain.specs.Connectives.{existential, universal}
 use Rattle.semantics.specs.Terms.{term, local}
+use Rattle.semantics.specs.Quantified.{EachOfRole}
 use Rattle.semantics.specs.Interpretations.{Grading, WellFormed}
 use Rattle.semantics.specs.Books.{Book, Valid, individuals, RulesSatisfiable, Satisfiable}
 use Rattle.semantics.specs.Candidates.{place, IsPlace, placesBefore, NamesApart, candidates, inCandidate, gradeIn}
-use Rattle.semantics.specs.Links.{Allows, link}
+use Rattle.semantics.specs.Links.{link}
 use Rattle.elimination.specs.Survivors.{Sound, Survives}
 use Rattle.placement.specs.Dictionary.{Foremost, Nowhere}
 use Rattle.placement.specs.Outcome.{seat, HoldsAt, Unmentioned, placement, outcome, survivorsOf}
 use Rattle.semantics.proofs.Candidates as Candidates
 use Rattle.semantics.proofs.Links as Links
 use Rattle.elimination.proofs.Survivors as Survivors
-use Rattle.elimination.proofs.Listed as Listed
 use Rattle.placement.proofs.Outcome as Outcome
 
 -- ---- "Types and links"
@@ -45,8 +46,10 @@ module _ (G : Grading) (w : WellFormed G) where
 
   -- "The link between two candidates for a role is the greatest r at which, for each "all" term of that role, max(N − r, child in the second)
   -- is at least its grade in the first, and for each "some" term min(r, child in the second) is at most its grade in the first."
-  pub link-is-greatest : (r c d s : ℕ) → s ≤ G .steps → (s ≤ link G r c d) ↔ Allows G r c d s
-  link-is-greatest r c d = Links.link-allows G r c d w
+  pub link-is-greatest : (r c d s : ℕ) → s ≤ G .steps → (s ≤ link G r c d)
+      ↔ (EachOfRole (G .terms) universal r (λ i x. gradeIn G c i ≤ G .connectives .implication s (gradeIn G d x))
+      × EachOfRole (G .terms) existential r (λ i x. G .connectives .conjunction s (gradeIn G d x) ≤ gradeIn G c i))
+  link-is-greatest r c d = Links.link-each G r c d w
 
   pub link-is-on-chain : (r c d : ℕ) → link G r c d ≤ G .steps
   link-is-on-chain = Links.link-le G

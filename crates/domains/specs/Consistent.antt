@@ -5,19 +5,20 @@ use mathlib.Core.Path.{_≡_}
 use mathlib.Core.List.{List}
 use Prim.Native.Nat.{ℕ, _≤_, _<_}
 use lib.ListN.{length}
+use Rattle.gradings.specs.declared.Logic.{Logic}
 use Rattle.grades.specs.Rows.{rowAt}
 use Rattle.network.specs.Constraints.{AllMet, OnChain}
 use Rattle.network.specs.Network.{between, Wired}
 use Rattle.domains.specs.Tables.{Allowed}
 
 -- the rows a and b meet the constraints from the one to the other, and back
-abbrev pub FitsBy : (N : ℕ) (forth back : List ℕ) (a b : List ℕ) → Type 0
-FitsBy N forth back a b = AllMet N forth a b × AllMet N back b a
+abbrev pub FitsBy : Logic → (forth back : List ℕ) (a b : List ℕ) → Type 0
+FitsBy l forth back a b = AllMet l forth a b × AllMet l back b a
 
-module _ (N : ℕ) (net ends : List ℕ) where
+module _ (l : Logic) (net ends : List ℕ) where
   -- a row a for individual j and a row b for individual i are compatible
   abbrev pub Fits : (j i : ℕ) (a b : List ℕ) → Type 0
-  Fits j i = FitsBy N (between net ends j i) (between net ends i j)
+  Fits j i = FitsBy l (between net ends j i) (between net ends i j)
 
   -- s has each of n individuals where the table allows it, and any two are compatible
   pub record Consistent (count : ℕ) (rows : List ℕ) (n : ℕ) (table : List ℕ) (s : ℕ → ℕ) : Type 0 where
@@ -27,12 +28,12 @@ module _ (N : ℕ) (net ends : List ℕ) where
 
 -- ---- what stays as it is throughout: a network over m terms, n individuals, candidates below count, and their rows
 
-pub record Problem (N m : ℕ) (net ends : List ℕ) (count n : ℕ) (rows : List ℕ) : Type 0 where
-  pub wired : Wired N m net ends
+pub record Problem (l : Logic) (m : ℕ) (net ends : List ℕ) (count n : ℕ) (rows : List ℕ) : Type 0 where
+  pub wired : Wired l m net ends
   pub candidates-few : count ≤ 16384
   pub individuals-few : n ≤ 8
   pub rows-long : 1048576 ≤ length rows
 
 -- the rows of the candidates in the table are on the chain
-abbrev pub Graded : (N m count n : ℕ) (rows table : List ℕ) → Type 0
-Graded N m count n rows table = (j c : ℕ) → j < n → c < count → Allowed table j c → OnChain N m (rowAt rows c)
+abbrev pub Graded : Logic → (m count n : ℕ) (rows table : List ℕ) → Type 0
+Graded l m count n rows table = (j c : ℕ) → j < n → c < count → Allowed table j c → OnChain l m (rowAt rows c)

@@ -19,7 +19,7 @@ use Rattle.semantics.specs.Links.{link}
 use Rattle.semantics.proofs.Terms.{child-lt}
 use Rattle.semantics.proofs.Interpretations.{taken, gradeAt-quantified, gradeAt-le}
 use Rattle.semantics.proofs.Candidates.{typeOf-lt, typeOf-has}
-use Rattle.semantics.proofs.Links.{link-most, link-le, link-bounded}
+use Rattle.semantics.proofs.Links.{allows-own, link-most, link-le, link-bounded}
 use Rattle.elimination.specs.Survivors.{Fits, Sound, Survives, Witnesses}
 use Rattle.elimination.proofs.Survivors.{survivors-largest}
 
@@ -36,8 +36,8 @@ module _ (G : Grading) (rs : List Rule) (w : WellFormed G) (in-range : Each (Rul
 
   pub link-of-types : (r e f : ℕ) → e < I .size → f < I .size → I .links r e f ≤ link G r (typeOf G I e) (typeOf G I f)
   link-of-types r e f he hf =
-      link-most G r (typeOf G I e) (typeOf G I f) (I .links r e f) (p .links-le r e f he hf) (λ i l q x t.
-      rw (type-quantified i l q r x t e he, ← typeOf-has G w I p f hf x (child-in i l q r x t)) (over-upper q (G .steps) (taken G I q r x e) (I .size) f hf))
+      link-most G r (typeOf G I e) (typeOf G I f) (I .links r e f) (p .links-le r e f he hf) (allows-own G r _ _ _ (λ i l q x t.
+      rw (type-quantified i l q r x t e he, ← typeOf-has G w I p f hf x (child-in i l q r x t)) (over-upper q (G .steps) (taken G I q r x e) (I .size) f hf)))
 
   -- the types of the elements
   abbrev pub Realised : ℕ → Type 0

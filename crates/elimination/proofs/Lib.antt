@@ -2,3 +2,4 @@ pub mod Survivors
 pub mod Complete
 pub mod Listed
 pub mod Marks
+pub mod Witnesses

@@ -8,44 +8,48 @@ use native.Mathlib.Decide.{decLt}
 use native.Mathlib.Omega.{arith}
 use lib.ListN.{length, getD}
 use Rattle.semantics.specs.Terms.{Term, Ordered}
-use Rattle.semantics.specs.Interpretations.{Grading, graded}
+use Rattle.semantics.specs.Interpretations.{Grading}
 use Rattle.semantics.specs.Books.{Rule}
 use Rattle.semantics.specs.Candidates.{candidates}
-use Rattle.semantics.proofs.Interpretations.{graded-well-formed}
 use Rattle.semantics.proofs.Candidates.{gradeIn-le}
+use Rattle.gradings.specs.Gradings.{grading}
+use Rattle.gradings.specs.declared.Logic.{Logic}
+use Rattle.gradings.proofs.Gradings.{grading-well-formed}
 use Rattle.elimination.specs.Survivors.{Sound, survivors, Survives, Covers}
 use Rattle.elimination.specs.Marks.{marksOf, Marked}
 use Rattle.elimination.proofs.Survivors.{survivors-ascending, survivors-sound, covers-sound}
 use Rattle.elimination.proofs.Marks.{marked-lt, marks-of, marks-number}
-use Rattle.witnesses.specs.Tables.{slotCount, slotKind, slotRole, slotChild, slotTerm, quantifierOf, Tables, tables, Ready, SlotsOf, TablesOf}
+use Rattle.slots.proofs.Slots.{slot-child}
+use Rattle.slots.specs.Slots.{slotCount, slotQuantifier, slotRole, slotChild, slotTerm, SlotsOf}
+use Rattle.witnesses.specs.Tables.{Tables, tables, Ready, TablesOf}
 use Rattle.witnesses.proofs.Tables.{witness-witnesses, witnesses-witness}
 use Rattle.sweeps.specs.Sweeps.{Closed, State, Settled}
 use Rattle.eliminator.specs.Filling.{Entered}
-use Rattle.eliminator.proofs.Filling.{slot-child}
 
 past-end : (l : List ℕ) (c : ℕ) → length l ≤ c → getD l c 0 ≡ 0
 past-end [] c h = refl
 past-end (x ∷ xs) zero h = absurd (omega arith)
 past-end (x ∷ xs) (suc c) h = past-end xs c (omega arith)
 
-module _ (N : ℕ) (ts : List Term) (o : Ordered ts) (rs : List Rule) (count : ℕ) (slots own child marks : List ℕ) (left : ℕ) (S : SlotsOf ts slots)
-    (E : Entered (graded N ts) rs slots own child marks count left) where
+module _ (lg : Logic) (ts : List Term) (o : Ordered ts) (rs : List Rule) (count : ℕ) (slots own child marks : List ℕ) (left : ℕ) (S : SlotsOf ts slots)
+    (E : Entered (grading lg ts) rs slots own child marks count left) where
   abbrev G : Grading
-  G = graded N ts
+  G = grading lg ts
 
   abbrev T : Tables
-  T = tables N count slots own child
+  T = tables lg count slots own child
 
   -- ---- the start
 
-  pub ready-of : slotCount slots ≤ 16 → 16 * count ≤ length own → 16 * count ≤ length child → Ready T
-  ready-of few ho hc = record {
+  pub ready-of : lg .steps ≤ 16 → slotCount slots ≤ 16 → 16 * count ≤ length own → 16 * count ≤ length child → Ready T
+  ready-of low few ho hc = record {
+    low-steps = low;
     few = few;
     own-room = ho;
     child-room = hc;
     kinds = S .kinds;
-    own-le = λ c q h l. rw (E .own-is c h q l) (gradeIn-le G (graded-well-formed N ts o) c (slotTerm slots q) (S .terms q l));
-    child-le = λ c q h l. rw (E .child-is c h q l) (gradeIn-le G (graded-well-formed N ts o) c (slotChild slots q) (slot-child ts o slots S q l));
+    own-le = λ c q h l. rw (E .own-is c h q l) (gradeIn-le G (grading-well-formed lg ts o) c (slotTerm slots q) (S .terms q l));
+    child-le = λ c q h l. rw (E .child-is c h q l) (gradeIn-le G (grading-well-formed lg ts o) c (slotChild slots q) (slot-child ts o slots S q l));
   }
 
   tables-of : TablesOf ts T
@@ -69,7 +73,7 @@ module _ (N : ℕ) (ts : List Term) (o : Ordered ts) (rs : List Rule) (count : �
     survivors-closed c m = (
       omega (arith, survivors-sound G rs .candidate c m),
       λ q h.
-          let u = survivors-sound G rs .fits c m .1 (slotTerm slots q) (S .terms q h) (quantifierOf (slotKind slots q)) (slotRole slots q) (slotChild slots q) (S .are q h) in (
+          let u = survivors-sound G rs .fits c m .1 (slotTerm slots q) (S .terms q h) (slotQuantifier slots q) (slotRole slots q) (slotChild slots q) (S .are q h) in (
             u .0,
             u .1,
             witnesses-witness ts o T tables-of c q (u .0) (omega (arith, survivors-sound G rs .candidate c m)) h

@@ -1,64 +1,19 @@
--- Filling the tables: the quantified terms as slots, one row for each candidate, and the first marks, by the rules alone.
+-- Filling the tables: one row for each candidate, and the first marks, by the rules alone.
 -- Assumes nothing.
 use mathlib.Core.Path.{_≡_}
 use mathlib.Core.Logic.{_↔_}
 use mathlib.Core.List.{List}
-use Prim.Native.Nat.{ℕ, _+_, _*_, _≤_, _<_}
-use lib.ListN.{length, getD, set}
+use Prim.Native.Nat.{ℕ, _*_, _≤_, _<_}
+use lib.ListN.{getD}
 use Rattle.chain.specs.Search.{rank}
-use Rattle.chain.specs.Connectives.{Quantifier}
-use Rattle.semantics.specs.Terms.{Term, name, not, and, or, some, all, top, bottom, term}
-use Rattle.semantics.specs.Quantified.{quantified}
 use Rattle.semantics.specs.Interpretations.{Grading}
 use Rattle.semantics.specs.Books.{Rule}
 use Rattle.semantics.specs.Candidates.{gradeIn}
 use Rattle.sections.specs.Rules.{ruleCount, ruleAt}
 use Rattle.elimination.specs.Survivors.{Obeys}
 use Rattle.elimination.specs.Marks.{Marked, marked?}
-use Rattle.witnesses.specs.Tables.{slotCount, slotKind, slotRole, slotChild, slotTerm, quantifierOf, cell}
-
--- ---- slots
-
-abbrev pub IsQuantified : Term → Type 0
-IsQuantified (name a) = ⊥
-IsQuantified (not c) = ⊥
-IsQuantified (and c d) = ⊥
-IsQuantified (or c d) = ⊥
-IsQuantified (some r c) = Unit {0}
-IsQuantified (all r c) = Unit {0}
-IsQuantified top = ⊥
-IsQuantified bottom = ⊥
-
-unfoldable pub isQuantified? : (t : Term) → Dec (IsQuantified t)
-isQuantified? (name a) = no (λ z. z)
-isQuantified? (not c) = no (λ z. z)
-isQuantified? (and c d) = no (λ z. z)
-isQuantified? (or c d) = no (λ z. z)
-isQuantified? (some r c) = yes tt
-isQuantified? (all r c) = yes tt
-isQuantified? top = no (λ z. z)
-isQuantified? bottom = no (λ z. z)
-
--- how many quantified terms stand before term i
-unfoldable pub quantifiedBefore : List Term → ℕ → ℕ
-unfolding isQuantified?
-quantifiedBefore ts = rank (λ j. isQuantified? (term ts j))
-
--- term i is quantified, of the kind k, with role r and child x
-abbrev pub IsSlot : List Term → (k r x i : ℕ) → Type 0
-IsSlot ts k r x i = (4 ≤ k) × (k ≤ 5) × (i < length ts) × (term ts i ≡ quantified (quantifierOf k) r x)
-
--- the first m slots are the quantified terms before term b
-pub record SlotsCollected (ts : List Term) (slots : List ℕ) (b m : ℕ) : Type 0 where
-  pub counted : m ≡ quantifiedBefore ts b
-  pub are : (q : ℕ) → q < m → IsSlot ts (slotKind slots q) (slotRole slots q) (slotChild slots q) (slotTerm slots q)
-  pub onto : (i : ℕ) → i < b → (k : Quantifier) (r x : ℕ) → term ts i ≡ quantified k r x → (q : ℕ) × (q < m) × (slotTerm slots q ≡ i)
-
--- the slots with slot m written
-abbrev pub written : (slots : List ℕ) (m kind role child term : ℕ) → List ℕ
-written s m k r x i = set (set (set (set s (4 * m) k) (4 * m + 1) r) (4 * m + 2) x) (4 * m + 3) i
-
--- ---- rows
+use Rattle.slots.specs.Slots.{slotCount, slotChild, slotTerm}
+use Rattle.witnesses.specs.Tables.{cell}
 
 -- a row of grades meets every rule
 abbrev pub RowObeys : (rules row : List ℕ) → Type 0

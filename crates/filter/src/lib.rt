@@ -9,6 +9,7 @@ ghost use Rattle.network.specs.Network.{Wired};
 ghost use Rattle.domains.specs.Consistent.{Problem};
 ghost use Rattle.filter.specs.Filter.{MembershipBy, MembershipsBy, Admits, Filtered, Column};
 use grades::row_at;
+use gradings::Logic;
 use network::all_met;
 use network::between;
 use sections::claimed;
@@ -49,7 +50,7 @@ fn memberships_met(memberships: &[u8], j: usize, row: &[u8]) -> bool
 
 // 1 if individual `j` may have a candidate of this row by the claims that mention it alone, else 0.
 fn admitted(
-    steps: u8,
+    logic: Logic,
     memberships: &[u8],
     net: &[u8],
     ends: &[u16],
@@ -57,15 +58,15 @@ fn admitted(
     j: usize,
     row: &[u8],
 ) -> u8
-    requires { ⌜ MembershipsRight (now memberships) steps terms ⌝ }
-    requires { ⌜ Wired steps terms (now net) (now ends) ⌝ }
+    requires { ⌜ MembershipsRight (now memberships) (logic .steps) terms ⌝ }
+    requires { ⌜ Wired logic terms (now net) (now ends) ⌝ }
     requires { ⌜ (j < 8) × (terms ≤ length (now row)) ⌝ }
-    ensures { λ r. ⌜ (r ≡ 1) ↔ Admits steps (now (memberships .entry)) (now (net .entry)) (now (ends .entry)) j (now (row .entry)) ⌝ }
+    ensures { λ r. ⌜ (r ≡ 1) ↔ Admits logic (now (memberships .entry)) (now (net .entry)) (now (ends .entry)) j (now (row .entry)) ⌝ }
 {
     if !memberships_met(memberships, j, row) {
         return 0;
     }
-    if !all_met(steps, between(net, ends, j, j), row, row, terms) {
+    if !all_met(logic, between(net, ends, j, j), row, row, terms) {
         return 0;
     }
     1
@@ -75,7 +76,7 @@ fn admitted(
 
 // Sets what the table says of candidate `c`, of this row, for each individual.
 fn allow_row(
-    steps: u8,
+    logic: Logic,
     memberships: &[u8],
     net: &[u8],
     ends: &[u16],
@@ -85,15 +86,15 @@ fn allow_row(
     row: &[u8],
     table: &mut [u8],
 )
-    requires { ⌜ MembershipsRight (now memberships) steps terms ⌝ }
-    requires { ⌜ Wired steps terms (now net) (now ends) ⌝ }
+    requires { ⌜ MembershipsRight (now memberships) (logic .steps) terms ⌝ }
+    requires { ⌜ Wired logic terms (now net) (now ends) ⌝ }
     requires { ⌜ (individuals ≤ 8) × (terms ≤ length (now row)) × (c < 16384) × (131072 ≤ length (now table)) ⌝ }
-    ensures { λ _. ⌜ Column steps (now (memberships .entry)) (now (net .entry)) (now (ends .entry)) (now (row .entry)) individuals c
+    ensures { λ _. ⌜ Column logic (now (memberships .entry)) (now (net .entry)) (now (ends .entry)) (now (row .entry)) individuals c
         (now (table .entry)) (now (table .exit)) ⌝ }
 {
     let mut j = 0;
     while j < individuals {
-        let b = admitted(steps, memberships, net, ends, terms, j, row);
+        let b = admitted(logic, memberships, net, ends, terms, j, row);
         table[16384 * j + c] = b;
         j += 1;
     }
@@ -101,7 +102,7 @@ fn allow_row(
 
 // Fills the table, empty so far: a candidate that is not marked stays out.
 pub fn fill_table(
-    steps: u8,
+    logic: Logic,
     memberships: &[u8],
     net: &[u8],
     ends: &[u16],
@@ -112,10 +113,10 @@ pub fn fill_table(
     rows: &[u8],
     table: &mut [u8],
 )
-    requires { ⌜ MembershipsRight (now memberships) steps terms ⌝ }
-    requires { ⌜ Problem steps terms (now net) (now ends) count individuals (now rows) ⌝ }
+    requires { ⌜ MembershipsRight (now memberships) (logic .steps) terms ⌝ }
+    requires { ⌜ Problem logic terms (now net) (now ends) count individuals (now rows) ⌝ }
     requires { ⌜ (count ≤ length (now marks)) × (131072 ≤ length (now table)) × ((i : ℕ) → getD (now table) i 0 ≡ 0) ⌝ }
-    ensures { λ _. ⌜ Filtered steps (now (memberships .entry)) (now (net .entry)) (now (ends .entry)) (now (marks .entry)) (now (rows .entry)) individuals count
+    ensures { λ _. ⌜ Filtered logic (now (memberships .entry)) (now (net .entry)) (now (ends .entry)) (now (marks .entry)) (now (rows .entry)) individuals count
         (now (table .exit)) ⌝ }
 {
     let mut entered = 0;
@@ -126,7 +127,7 @@ pub fn fill_table(
             continue;
         }
         allow_row(
-            steps,
+            logic,
             memberships,
             net,
             ends,

@@ -1,9 +1,9 @@
--- Laws of one term of a pass: what its kind tells; that the table's grades and the digits left are the candidate's; and that a link between
--- two rows is one that each term allows.
+-- Laws of one term of a pass: what its kind tells; that the table's grades and the digits left are the candidate's; and which links a
+-- term allows.
 -- Assumes nothing.
 use mathlib.Core.Path.{_≡_, refl, sym, ap, subst, _∙_}
 use mathlib.Core.Bool.{Bool}
-use mathlib.Core.Logic.{_↔_, dite, if-pos, if-neg}
+use mathlib.Core.Logic.{_⊎_, dite, if-pos, if-neg}
 use mathlib.Core.List.{List}
 use Prim.Native.Nat.{ℕ, _+_, _/_, _%_, _^_, _≤_, _<_}
 use native.Mathlib.Numerals.{add-one}
@@ -11,37 +11,40 @@ use native.Mathlib.Omega.{arith}
 use lib.ListN.{length, getD}
 use Rattle.chain.specs.Decisions.{Tells}
 use Rattle.chain.specs.Lists.{table}
-use Rattle.chain.specs.Connectives.{Quantifier, existential, universal, zadeh, through, Within}
+use Rattle.chain.specs.Connectives.{Quantifier, Permits}
 use Rattle.chain.proofs.Decisions.{tells-map}
 use Rattle.chain.proofs.Lists.{length-table, getD-table, every-table}
 use Rattle.chain.proofs.Digits.{digit-power, off-zero, off-suc}
 use Rattle.semantics.specs.Terms.{Term, name, not, and, or, some, all, top, bottom, term, Children, local}
-use Rattle.semantics.specs.Quantified.{quantified, EachOfRole}
-use Rattle.semantics.specs.Interpretations.{Grading, graded, WellFormed}
+use Rattle.semantics.specs.Quantified.{quantified}
+use Rattle.semantics.specs.Interpretations.{Grading, WellFormed}
 use Rattle.semantics.specs.Candidates.{place, IsPlace, isPlace?, placesBefore, gradeIn}
-use Rattle.semantics.proofs.Terms.{local-same}
-use Rattle.semantics.proofs.Interpretations.{graded-well-formed}
+use Rattle.semantics.specs.Links.{Governs, TermAllows}
+use Rattle.semantics.proofs.Terms.{child-lt, local-same}
+use Rattle.semantics.proofs.Quantified.{quantified-alike}
 use Rattle.semantics.proofs.Candidates.{placesBefore-zero, placesBefore-place, placesBefore-other, gradeIn-local, gradeIn-le, gradeIn-place}
-use Rattle.sections.specs.Terms.{termOf, kindByte, aByte, bByte, kindAt, aAt, bAt, termCount, termAt, termsOf, TermsRight}
-use Rattle.sections.proofs.Terms.{described-kind, by-kind, term-kind, length-terms, term-at, terms-ordered, terms-apart}
-use Rattle.grades.specs.Rows.{RowsAllow}
-use Rattle.grades.specs.OneTerm.{withPlaces, nextGrade, restAfter, TermAllows}
+use Rattle.gradings.specs.Gradings.{connectivesOf, grading}
+use Rattle.gradings.specs.declared.Logic.{Logic}
+use Rattle.gradings.proofs.Gradings.{grading-well-formed}
+use Rattle.sections.specs.Terms.{termOf, quantifierOf, kindAt, aAt, bAt, termCount, termAt, termsOf, TermsRight}
+use Rattle.sections.proofs.Terms.{described-kind, by-kind, term-kind, length-terms, term-at, terms-ordered, terms-apart, quantified-term, other-term}
+use Rattle.grades.specs.OneTerm.{withPlaces, nextGrade, restAfter}
 
 -- ---- the table's grade
 
-module _ (N d : ℕ) (s xs : List ℕ) where
+module _ (l : Logic) (d : ℕ) (s xs : List ℕ) where
   -- the table's grade by kind
   pub grade-kind : (k : ℕ) → kindAt s (length xs) ≡ k
-      → local (withPlaces N d) (length xs) (termOf k (aAt s (length xs)) (bAt s (length xs))) (λ j. getD xs j 0) ≡ nextGrade N d s xs
+      → local (withPlaces l d) (length xs) (termOf k (aAt s (length xs)) (bAt s (length xs))) (λ j. getD xs j 0) ≡ nextGrade l d s xs
   unfolding nextGrade
-  grade-kind k e = ap (λ (t : Term). local (withPlaces N d) (length xs) t (λ j. getD xs j 0)) (sym (term-kind s (length xs) k e))
+  grade-kind k e = ap (λ (t : Term). local (withPlaces l d) (length xs) t (λ j. getD xs j 0)) (sym (term-kind s (length xs) k e))
 
   -- the kinds that are left are the places
   pub grade-place : TermsRight s → length xs < termCount s
-      → let k : ℕ = kindAt s (length xs) in ¬ (k ≡ 1) → ¬ (k ≡ 2) → ¬ (k ≡ 3) → ¬ (k ≡ 6) → ¬ (k ≡ 7) → d ≡ nextGrade N d s xs
+      → let k : ℕ = kindAt s (length xs) in ¬ (k ≡ 1) → ¬ (k ≡ 2) → ¬ (k ≡ 3) → ¬ (k ≡ 6) → ¬ (k ≡ 7) → d ≡ nextGrade l d s xs
   unfolding nextGrade
   grade-place ok h =
-      by-kind (λ k t. k < 8 → ¬ (k ≡ 1) → ¬ (k ≡ 2) → ¬ (k ≡ 3) → ¬ (k ≡ 6) → ¬ (k ≡ 7) → d ≡ local (withPlaces N d) (length xs) t (λ j. getD xs j 0))
+      by-kind (λ k t. k < 8 → ¬ (k ≡ 1) → ¬ (k ≡ 2) → ¬ (k ≡ 3) → ¬ (k ≡ 6) → ¬ (k ≡ 7) → d ≡ local (withPlaces l d) (length xs) t (λ j. getD xs j 0))
       (aAt s (length xs)) (bAt s (length xs)) (λ _ _ _ _ _ _. refl) (λ _ n _ _ _ _. absurd (n refl)) (λ _ _ n _ _ _. absurd (n refl))
       (λ _ _ _ n _ _. absurd (n refl)) (λ _ _ _ _ _ _. refl) (λ _ _ _ _ _ _. refl) (λ _ _ _ _ n _. absurd (n refl))
       (λ _ _ _ _ _ n. absurd (n refl)) (λ k g l _ _ _ _ _. absurd (omega arith)) (kindAt s (length xs))
@@ -75,91 +78,79 @@ module _ (N : ℕ) (s : List ℕ) (c : ℕ) where
 -- ---- a row, one grade after the other
 
 -- the grades of the terms before number i
-abbrev pub earlier : (N : ℕ) (s : List ℕ) (c i : ℕ) → List ℕ
-earlier N s c = table (gradeIn (graded N (termsOf s)) c)
+abbrev pub earlier : Logic → (s : List ℕ) (c i : ℕ) → List ℕ
+earlier l s c = table (gradeIn (grading l (termsOf s)) c)
 
-module _ (N : ℕ) (s : List ℕ) (ok : TermsRight s) (c : ℕ) where
+module _ (l : Logic) (s : List ℕ) (ok : TermsRight s) (c : ℕ) where
   abbrev G : Grading
-  G = graded N (termsOf s)
+  G = grading l (termsOf s)
 
   w : WellFormed G
-  w = graded-well-formed N (termsOf s) (terms-ordered s ok)
+  w = grading-well-formed l (termsOf s) (terms-ordered s ok)
 
-  pub earlier-le : (i : ℕ) → i ≤ termCount s → (j : ℕ) → getD (earlier N s c i) j 0 ≤ N
+  pub earlier-le : (i : ℕ) → i ≤ termCount s → (j : ℕ) → getD (earlier l s c i) j 0 ≤ l .steps
   earlier-le i h =
-      every-table (λ x. x ≤ N) (gradeIn G c) i 0 (omega arith) (λ j l. gradeIn-le G w c j (rw (length-terms s) (omega arith)))
+      every-table (λ x. x ≤ l .steps) (gradeIn G c) i 0 (omega arith) (λ j g. gradeIn-le G w c j (rw (length-terms s) (omega arith)))
 
   -- over them the table gives the grade of term i, where a place has the lowest digit left
-  pub grade-next : (i rest d : ℕ) (xs : List ℕ) → i < termCount s → xs ≡ earlier N s c i → rest ≡ restAt N s c i → d ≡ rest % (N + 1)
-      → nextGrade N d s xs ≡ gradeIn G c i
+  pub grade-next : (i rest d : ℕ) (xs : List ℕ) → i < termCount s → xs ≡ earlier l s c i → rest ≡ restAt (l .steps) s c i → d ≡ rest % (l .steps + 1)
+      → nextGrade l d s xs ≡ gradeIn G c i
   unfolding nextGrade
   grade-next i rest d xs h ex er ed =
       rw (ap length ex ∙ length-table (gradeIn G c) i)
-      (local-same (withPlaces N d) i (termAt s i) (subst (Children i) e (terms-ordered s ok i l)) _ (gradeIn G c)
+      (local-same (withPlaces l d) i (termAt s i) (subst (Children i) e (terms-ordered s ok i below)) _ (gradeIn G c)
       (λ j m. rw ex (getD-table (gradeIn G c) i j 0 m)) ∙ go (termAt s i) e)
     where
-      l : i < length (termsOf s)
-      l = rw (length-terms s) h
+      below : i < length (termsOf s)
+      below = rw (length-terms s) h
 
       e : term (termsOf s) i ≡ termAt s i
       e = term-at s i h
 
       own : (t : Term) → term (termsOf s) i ≡ t → IsPlace (place t) → d ≡ gradeIn G c i
       own t q p =
-          ed ∙ ap (λ (z : ℕ). z % (N + 1)) er
-          ∙ sym (gradeIn-place G w (terms-apart s ok) c i l (subst (λ (u : Term). IsPlace (place u)) (sym q) p)
-          ∙ digit-power (N + 1) (placesBefore (termsOf s) i) c)
+          ed ∙ ap (λ (z : ℕ). z % (l .steps + 1)) er
+          ∙ sym (gradeIn-place G w (terms-apart s ok) c i below (subst (λ (u : Term). IsPlace (place u)) (sym q) p)
+          ∙ digit-power (l .steps + 1) (placesBefore (termsOf s) i) c)
 
-      go : (t : Term) → term (termsOf s) i ≡ t → local (withPlaces N d) i t (gradeIn G c) ≡ gradeIn G c i
+      go : (t : Term) → term (termsOf s) i ≡ t → local (withPlaces l d) i t (gradeIn G c) ≡ gradeIn G c i
       go (name a) q = own (name a) q tt
-      go (not x) q = sym (gradeIn-local G w c i l (not x) q)
-      go (and x y) q = sym (gradeIn-local G w c i l (and x y) q)
-      go (or x y) q = sym (gradeIn-local G w c i l (or x y) q)
+      go (not x) q = sym (gradeIn-local G w c i below (not x) q)
+      go (and x y) q = sym (gradeIn-local G w c i below (and x y) q)
+      go (or x y) q = sym (gradeIn-local G w c i below (or x y) q)
       go (some r x) q = own (some r x) q tt
       go (all r x) q = own (all r x) q tt
-      go top q = sym (gradeIn-local G w c i l top q)
-      go bottom q = sym (gradeIn-local G w c i l bottom q)
+      go top q = sym (gradeIn-local G w c i below top q)
+      go bottom q = sym (gradeIn-local G w c i below bottom q)
 
 -- ---- the link that a term allows
 
-module _ (N : ℕ) (s : List ℕ) (r : ℕ) (first second : List ℕ) (g : ℕ) where
-  -- what a quantified term i with the child x asks
-  abbrev Asks : Quantifier → ℕ → ℕ → Type 0
-  Asks q i x = Within q (through (zadeh N) q g (getD second x 0)) (getD first i 0)
+module _ (l : Logic) (s : List ℕ) (r : ℕ) (own child : ℕ → ℕ) (g i : ℕ) (h : i < termCount s) where
+  abbrev Γ : Grading
+  Γ = grading l (termsOf s)
 
-  -- a link is allowed between two rows where each term allows it
-  pub allows-terms : RowsAllow N (termsOf s) r first second g ↔ ((i : ℕ) → i < termCount s → TermAllows N s r first second g i)
-  unfolding TermAllows
-  allows-terms = (λ a i h q x e. each q a i (rw (length-terms s) h) x (term-at s i h ∙ e), λ f. (made f universal, made f existential))
-    where
-      each : (q : Quantifier) → RowsAllow N (termsOf s) r first second g → EachOfRole (termsOf s) q r (Asks q)
-      each existential a = a .1
-      each universal a = a .0
+  -- a term of another kind asks nothing
+  pub allows-kind : (kindAt s i < 4) ⊎ (5 < kindAt s i) → TermAllows Γ r own child g i
+  allows-kind n q t x e f = absurd (other-term s i h n q t x e)
 
-      made : ((i : ℕ) → i < termCount s → TermAllows N s r first second g i) → (q : Quantifier) → EachOfRole (termsOf s) q r (Asks q)
-      made f q i l x e = let h : i < termCount s = rw (← length-terms s) l in f i h q x (sym (term-at s i h) ∙ e)
+  module _ (low : 4 ≤ kindAt s i) (high : kindAt s i ≤ 5) where
+    is : (q : Quantifier) (t x : ℕ) → term (termsOf s) i ≡ quantified q t x → (quantifierOf (kindAt s i) ≡ q) × (aAt s i ≡ t) × (bAt s i ≡ x)
+    is q t x e = quantified-alike (quantifierOf (kindAt s i)) q (aAt s i) t (bAt s i) x (sym (quantified-term s i h low high) ∙ e)
 
-  module _ (ok : TermsRight s) (i : ℕ) (h : i < termCount s) where
-    -- a term of another role, or of another kind, asks nothing
-    pub allows-role : ¬ (aAt s i ≡ r) → TermAllows N s r first second g i
-    unfolding TermAllows
-    allows-role n existential x e = absurd (n (sym (ok i h .0 .2) ∙ ap aByte e))
-    allows-role n universal x e = absurd (n (sym (ok i h .0 .2) ∙ ap aByte e))
+    pub child-below : TermsRight s → bAt s i < i
+    child-below ok =
+        child-lt (termsOf s) (terms-ordered s ok) i (rw (length-terms s) h) (quantifierOf (kindAt s i)) (aAt s i) (bAt s i) (quantified-term s i h low high)
 
-    pub allows-kind : ¬ (kindAt s i ≡ 4) → ¬ (kindAt s i ≡ 5) → TermAllows N s r first second g i
-    unfolding TermAllows
-    allows-kind n m existential x e = absurd (n (sym (ok i h .0 .1) ∙ ap kindByte e))
-    allows-kind n m universal x e = absurd (m (sym (ok i h .0 .1) ∙ ap kindByte e))
+    -- nor does one of a role that does not bound the link
+    pub allows-role : ¬ Governs Γ (aAt s i) r → TermAllows Γ r own child g i
+    allows-role n q t x e f = absurd (n (subst (λ (z : ℕ). Governs Γ z r) (sym (is q t x e .1)) f))
 
-  -- and a quantified term of the role asks one thing
-  pub allows-quantified : (b : Bool) (i : ℕ) (q : Quantifier) → termAt s i ≡ quantified q (aAt s i) (bAt s i) → aAt s i ≡ r
-      → Tells b (Asks q i (bAt s i)) → Tells b (TermAllows N s r first second g i)
-  unfolding TermAllows
-  allows-quantified b i q e f =
-      tells-map b (λ h k x n. go q k x (sym e ∙ n) h) (λ a. a q (bAt s i) (e ∙ ap (λ (z : ℕ). quantified q z (bAt s i)) f))
-    where
-      go : (q k : Quantifier) (x : ℕ) → quantified q (aAt s i) (bAt s i) ≡ quantified k r x → Asks q i (bAt s i) → Asks k i x
-      go existential existential x n h = rw (← ap bByte n) h
-      go existential universal x n h = absurd (omega (arith, ap kindByte n))
-      go universal existential x n h = absurd (omega (arith, ap kindByte n))
-      go universal universal x n h = rw (← ap bByte n) h
+    -- and a quantified term of such a role asks one thing
+    pub allows-quantified : (b : Bool) → Governs Γ (aAt s i) r → Tells b (Permits (connectivesOf l) (quantifierOf (kindAt s i)) g (child (bAt s i)) (own i))
+        → Tells b (TermAllows Γ r own child g i)
+    allows-quantified b f =
+        tells-map b
+        (λ a q t x e _. let u = is q t x e in
+        subst (λ (z : Quantifier). Permits (connectivesOf l) z g (child x) (own i)) (u .0)
+        (subst (λ (z : ℕ). Permits (connectivesOf l) (quantifierOf (kindAt s i)) g (child z) (own i)) (u .2) a))
+        (λ a. a (quantifierOf (kindAt s i)) (aAt s i) (bAt s i) (quantified-term s i h low high) f)

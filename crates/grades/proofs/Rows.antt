@@ -1,31 +1,27 @@
 -- Laws of rows of grades, of tables of rows, and of the link of two rows: it is that of their candidates.
 -- Assumes nothing.
 use mathlib.Core.Path.{_≡_, refl, sym, ap, subst, _∙_}
-use mathlib.Core.Logic.{_↔_, Iff·symm, Iff·trans, Iff·and}
+use mathlib.Core.Logic.{_↔_}
 use mathlib.Core.List.{List, [], _∷_, _++_}
-use Prim.Native.Nat.{ℕ, zero, suc, _+_, _-_, _*_, _≤_, _<_, min, max}
-use native.Mathlib.Nat.{le-antisymm}
+use Prim.Native.Nat.{ℕ, zero, suc, _+_, _-_, _*_, _≤_, _<_}
 use native.Mathlib.Omega.{arith}
 use lib.ListN.{length, getD, take, drop, length-drop, List·getD-append}
 use lib.Seq.{length-take-le, take-take, take-at, drop-at}
 use borrow.Author.Count.{below-more}
-use Rattle.chain.specs.Search.{greatest}
 use Rattle.chain.specs.Lists.{table}
-use Rattle.chain.specs.Connectives.{Quantifier, existential, universal}
-use Rattle.chain.proofs.Search.{greatest-le, greatest-passes, greatest-most}
 use Rattle.chain.proofs.Lists.{length-table, getD-table, every-table}
-use Rattle.semantics.specs.Terms.{Term, term, Ordered}
-use Rattle.semantics.specs.Quantified.{quantified, EachOfRole}
-use Rattle.semantics.specs.Interpretations.{Grading, graded, WellFormed}
+use Rattle.semantics.specs.Terms.{Term, Ordered}
+use Rattle.semantics.specs.Interpretations.{Grading, WellFormed}
 use Rattle.semantics.specs.Candidates.{gradeIn}
-use Rattle.semantics.specs.Links.{link}
-use Rattle.semantics.proofs.Terms.{child-lt}
-use Rattle.semantics.proofs.Interpretations.{graded-well-formed}
+use Rattle.semantics.specs.Links.{Allows, linkBetween, link}
 use Rattle.semantics.proofs.Candidates.{gradeIn-le}
-use Rattle.semantics.proofs.Links.{link-le, link-allows}
+use Rattle.semantics.proofs.Links.{allows-alike, between-alike, link-allows}
+use Rattle.gradings.specs.Gradings.{grading}
+use Rattle.gradings.specs.declared.Logic.{Logic}
+use Rattle.gradings.proofs.Gradings.{grading-well-formed}
 use Rattle.sections.specs.Terms.{termCount, termsOf}
 use Rattle.sections.proofs.Terms.{length-terms}
-use Rattle.grades.specs.Rows.{rowOf, HasGrades, rowAt, EachRow, RowsAllow, rowsAllow?, linkOfRows}
+use Rattle.grades.specs.Rows.{rowOf, HasGrades, rowAt, entry, EachRow}
 
 -- ---- a candidate's row
 
@@ -48,9 +44,9 @@ module _ (G : Grading) (c : ℕ) where
   row-le w = every-table (λ x. x ≤ G .steps) (gradeIn G c) (length (G .terms)) 0 (omega arith) (gradeIn-le G w c)
 
 -- over a section of terms
-pub row-terms : (N : ℕ) (s : List ℕ) (c : ℕ) → rowOf (graded N (termsOf s)) c ≡ table (gradeIn (graded N (termsOf s)) c) (termCount s)
+pub row-terms : (l : Logic) (s : List ℕ) (c : ℕ) → rowOf (grading l (termsOf s)) c ≡ table (gradeIn (grading l (termsOf s)) c) (termCount s)
 unfolding rowOf
-row-terms N s c = ap (table (gradeIn (graded N (termsOf s)) c)) (length-terms s)
+row-terms l s c = ap (table (gradeIn (grading l (termsOf s)) c)) (length-terms s)
 
 -- ---- a table of rows
 
@@ -88,38 +84,24 @@ each-row-more P k old new same each here = below-more (λ j. P j (rowAt new j)) 
 
 -- ---- the link of two rows
 
--- as a search downward meets it
-pub linkOfRows-greatest : (N : ℕ) (ts : List Term) (r : ℕ) (first second : List ℕ)
-    → linkOfRows N ts r first second ≡ greatest (rowsAllow? N ts r first second) N
-unfolding linkOfRows
-linkOfRows-greatest N ts r first second = refl
-
-module _ (N : ℕ) (ts : List Term) (o : Ordered ts) (r c d : ℕ) (first second : List ℕ) (hf : HasGrades (graded N ts) c first)
-    (hs : HasGrades (graded N ts) d second) where
+module _ (l : Logic) (ts : List Term) (o : Ordered ts) (r c d : ℕ) (first second : List ℕ) (hf : HasGrades (grading l ts) c first)
+    (hs : HasGrades (grading l ts) d second) where
   abbrev G : Grading
-  G = graded N ts
+  G = grading l ts
 
   w : WellFormed G
-  w = graded-well-formed N ts o
-
-  -- what is asked of the entries at each term of the role is asked of the grades
-  each-same : (q : Quantifier) (P : ℕ → ℕ → Type 0)
-      → EachOfRole ts q r (λ i x. P (getD first i 0) (getD second x 0)) ↔ EachOfRole ts q r (λ i x. P (gradeIn G c i) (gradeIn G d x))
-  each-same q P = (λ f i l x e. rw (← hf i l, ← hs x (below i l x e)) (f i l x e), λ f i l x e. rw (hf i l, hs x (below i l x e)) (f i l x e))
-    where
-      below : (i : ℕ) → i < length ts → (x : ℕ) → term ts i ≡ quantified q r x → x < length ts
-      below i l x e = omega (arith, child-lt ts o i l q r x e)
+  w = grading-well-formed l ts o
 
   -- a link is allowed between the rows up to the candidates' link, and not above it
-  pub rows-link : (s : ℕ) → s ≤ N → RowsAllow N ts r first second s ↔ (s ≤ link G r c d)
-  rows-link s h =
-      Iff·trans (Iff·and (each-same universal (λ x y. x ≤ max (N - s) y)) (each-same existential (λ x y. min s y ≤ x)))
-      (Iff·symm (link-allows G r c d w s h))
+  pub rows-link : (s : ℕ) → s ≤ l .steps → Allows G r (entry first) (entry second) s ↔ (s ≤ link G r c d)
+  rows-link s h = (
+    λ a. link-allows G r c d w s h .1 (allows-alike G w r (entry first) (gradeIn G c) (entry second) (gradeIn G d) hf hs s a),
+    λ k. allows-alike G w r (gradeIn G c) (entry first) (gradeIn G d) (entry second) (λ i m. sym (hf i m)) (λ i m. sym (hs i m)) s
+        (link-allows G r c d w s h .0 k),
+  )
 
   -- so their link is the candidates'
-  pub linkOfRows-link : linkOfRows N ts r first second ≡ link G r c d
-  linkOfRows-link =
-      let p = rowsAllow? N ts r first second in
-      linkOfRows-greatest N ts r first second
-      ∙ le-antisymm (rows-link (greatest p N) (greatest-le p N) .0 (greatest-passes p (rows-link 0 (omega arith) .1 (omega arith)) N))
-      (greatest-most p N (link G r c d) (link-le G r c d) (rows-link (link G r c d) (link-le G r c d) .1 (omega arith)))
+  pub rows-between : linkBetween G r (entry first) (entry second) ≡ link G r c d
+  rows-between =
+      sym (between-alike G w r (gradeIn G c) (entry first) (gradeIn G d) (entry second) (gradeIn-le G w c) (gradeIn-le G w d) (λ i m. sym (hf i m))
+      (λ i m. sym (hs i m)))

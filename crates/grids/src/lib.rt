@@ -1,58 +1,52 @@
 // The grades of all terms at all elements of a sheet.
 ghost use mathlib.Core.Path.{_≡_};
 ghost use mathlib.Core.List.{List, _++_};
-ghost use Prim.Native.Nat.{ℕ, _+_, _*_, _-_, _<_, _≤_, min, max};
+ghost use Prim.Native.Nat.{ℕ, _+_, _*_, _<_, _≤_};
 ghost use lib.ListN.{length, getD, take, drop};
-ghost use Rattle.chain.specs.Connectives.{existential, universal};
+ghost use Rattle.chain.specs.Connectives.{neutral as neutralOf, join as joinOf};
 ghost use Rattle.chain.specs.Lists.{table};
-ghost use Rattle.sections.specs.Terms.{termOf, termCount, termAt, InRange};
+ghost use Rattle.sections.specs.Terms.{termOf, quantifierOf, termCount, termAt, InRange};
 ghost use Rattle.grids.specs.Columns.{cellAt, columnCount, rowsOf};
 ghost use Rattle.grids.specs.Workable.{Workable, Ready, WorkedTo, WorkedAll, Reached, gradeFrom, takenOver, takenAt};
-use grades::complement;
-use grades::greater;
-use grades::lesser;
+use gradings::Logic;
+use gradings::conjunction;
+use gradings::disjunction;
+use gradings::negation;
+use gradings::through;
 
-// ---- through a link
+// ---- "some" (kind 4) and "all" (kind 5) over all of `n` elements, linked or not: a row of links beside the column of the child's grades
 
-// What "some" takes through a link.
-fn through_some(link: u8, child: u8) -> u8
-    ensures { λ r. ⌜ r ≡ min link child ⌝ }
+// Over no element.
+fn neutral(logic: Logic, kind: u8) -> u8
+    requires { ⌜ (4 ≤ kind) × (kind ≤ 5) ⌝ }
+    ensures { λ r. ⌜ r ≡ neutralOf (quantifierOf kind) (logic .steps) ⌝ }
 {
-    lesser(link, child)
+    if kind == 4 { 0 } else { logic.steps }
 }
 
-// What "all" takes through a link.
-fn through_all(steps: u8, link: u8, child: u8) -> u8
-    requires { ⌜ link ≤ steps ⌝ }
-    ensures { λ r. ⌜ r ≡ max (steps - link) child ⌝ }
+// Over two: for "some" the greater, for "all" the lesser.
+fn join(kind: u8, x: u8, y: u8) -> u8
+    requires { ⌜ (4 ≤ kind) × (kind ≤ 5) ⌝ }
+    ensures { λ r. ⌜ r ≡ joinOf (quantifierOf kind) x y ⌝ }
 {
-    greater(complement(steps, link), child)
-}
-
-// ---- "some" and "all" over all of `n` elements, linked or not: a row of links beside the column of the child's grades
-
-fn greatest(row: &[u8], column: &[u8], n: usize) -> u8
-    requires { ⌜ (n ≤ length (now row)) × (n ≤ length (now column)) ⌝ }
-    ensures { λ r. ⌜ ((N : ℕ) → r ≡ takenOver existential N (now (row .entry)) (now (column .entry)) n) ⌝ }
-{
-    let mut found = 0;
-    let mut f = 0;
-    while f < n {
-        found = greater(found, through_some(row[f], column[f]));
-        f += 1;
+    if kind == 4 {
+        return if x < y { y } else { x };
     }
-    found
+    if x < y { x } else { y }
 }
 
-fn least(steps: u8, row: &[u8], column: &[u8], n: usize) -> u8
-    requires { ⌜ (n ≤ length (now row)) × (n ≤ length (now column)) ⌝ }
-    requires { ⌜ ((f : ℕ) → f < n → getD (now row) f 0 ≤ steps) ⌝ }
-    ensures { λ r. ⌜ r ≡ takenOver universal steps (now (row .entry)) (now (column .entry)) n ⌝ }
+// Over the first `n`.
+fn taken_over(logic: Logic, kind: u8, row: &[u8], column: &[u8], n: usize) -> u8
+    requires { ⌜ (4 ≤ kind) × (kind ≤ 5) × (n ≤ length (now row)) × (n ≤ length (now column)) ⌝ }
+    requires { ⌜ ((f : ℕ) → f < n → getD (now row) f 0 ≤ logic .steps) ⌝ }
+    ensures { λ r. ⌜ r ≡ takenOver (quantifierOf kind) logic (now (row .entry)) (now (column .entry)) n ⌝ }
 {
-    let mut found = steps;
+    let mut found = neutral(logic, kind);
     let mut f = 0;
     while f < n {
-        found = lesser(found, through_all(steps, row[f], column[f]));
+        let link = row[f];
+        let child = column[f];
+        found = join(kind, found, through(logic, kind, link, child));
         f += 1;
     }
     found
@@ -80,24 +74,24 @@ fn column_of(values: &[u8], n: usize, i: u8) -> &[u8]
 
 // ---- one term at one element
 
-fn some_at(n: usize, links: &[u8], role: u8, values: &[u8], child: u8, e: usize) -> u8
-    requires { ⌜ Reached n (now links) (now values) role child e ⌝ }
-    ensures { λ r. ⌜ ((N : ℕ) → r ≡ takenAt existential N n (now (links .entry)) (now (values .entry)) role child e) ⌝ }
+// Of kind 4 or 5.
+fn taken_at(
+    logic: Logic,
+    kind: u8,
+    n: usize,
+    links: &[u8],
+    role: u8,
+    values: &[u8],
+    child: u8,
+    e: usize,
+) -> u8
+    requires { ⌜ (4 ≤ kind) × (kind ≤ 5) × Reached n (now links) (now values) role child e ⌝ }
+    requires { ⌜ ((k : ℕ) → getD (now links) k 0 ≤ logic .steps) ⌝ }
+    ensures { λ r. ⌜ r ≡ takenAt (quantifierOf kind) logic n (now (links .entry)) (now (values .entry)) role child e ⌝ }
 {
-    greatest(
-        links_from(links, n, role, e),
-        column_of(values, n, child),
-        n,
-    )
-}
-
-fn all_at(steps: u8, n: usize, links: &[u8], role: u8, values: &[u8], child: u8, e: usize) -> u8
-    requires { ⌜ Reached n (now links) (now values) role child e ⌝ }
-    requires { ⌜ ((k : ℕ) → getD (now links) k 0 ≤ steps) ⌝ }
-    ensures { λ r. ⌜ r ≡ takenAt universal steps n (now (links .entry)) (now (values .entry)) role child e ⌝ }
-{
-    least(
-        steps,
+    taken_over(
+        logic,
+        kind,
         links_from(links, n, role, e),
         column_of(values, n, child),
         n,
@@ -120,32 +114,26 @@ fn name_grade(names: &[u8], a: usize, name: u8, e: usize) -> u8
 }
 
 // Of term `i`, by its three bytes, where it is no name and not quantified: its children's grades at `e` decide.
-fn plain_grade(kind: u8, x: u8, y: u8, i: usize, steps: u8, values: &[u8], e: usize) -> u8
+fn plain_grade(kind: u8, x: u8, y: u8, i: usize, logic: Logic, values: &[u8], e: usize) -> u8
     requires { ⌜ (i ≤ columnCount (now values)) × (e < 64) × InRange i (termOf kind x y) ⌝ }
-    requires { ⌜ ((j : ℕ) → j < i → cellAt (now values) j e ≤ steps) ⌝ }
+    requires { ⌜ ((j : ℕ) → j < i → cellAt (now values) j e ≤ logic .steps) ⌝ }
     requires { ⌜ (kind ≡ 0 → ⊥) × (kind ≡ 4 → ⊥) × (kind ≡ 5 → ⊥) ⌝ }
-    ensures { λ r. ⌜ ((n A : ℕ) (ns ls : List ℕ) → r ≡ gradeFrom steps n A ns ls (now (values .entry)) i (termOf kind x y) e) ⌝ }
+    ensures { λ r. ⌜ ((n A : ℕ) (ns ls : List ℕ) → r ≡ gradeFrom logic n A ns ls (now (values .entry)) i (termOf kind x y) e) ⌝ }
 {
-    if kind == 1 {
-        return complement(steps, cell(values, x, e));
+    match kind {
+        1 => negation(logic, cell(values, x, e)),
+        2 => conjunction(logic, cell(values, x, e), cell(values, y, e)),
+        3 => disjunction(logic, cell(values, x, e), cell(values, y, e)),
+        6 => logic.steps,
+        _ => 0,
     }
-    if kind == 2 {
-        return lesser(cell(values, x, e), cell(values, y, e));
-    }
-    if kind == 3 {
-        return greater(cell(values, x, e), cell(values, y, e));
-    }
-    if kind == 6 {
-        return steps;
-    }
-    0
 }
 
 // The grade of term `i` at `e`, from the columns of the terms below it.
 fn grade(
     terms: &[u8],
     i: usize,
-    steps: u8,
+    logic: Logic,
     n: usize,
     a: usize,
     names: &[u8],
@@ -153,24 +141,19 @@ fn grade(
     values: &[u8],
     e: usize,
 ) -> u8
-    requires { ⌜ Ready (now terms) steps n a (now names) (now links) ⌝ }
+    requires { ⌜ Ready (now terms) logic n a (now names) (now links) ⌝ }
     requires { ⌜ (i < termCount (now terms)) × (e < n) × (4096 ≤ length (now values)) ⌝ }
-    requires { ⌜ WorkedTo (now terms) steps n a (now names) (now links) i (now values) ⌝ }
-    ensures { λ r. ⌜ r ≡ gradeFrom steps n a (now (names .entry)) (now (links .entry)) (now (values .entry)) i (termAt (now (terms .entry)) i) e ⌝ }
+    requires { ⌜ WorkedTo (now terms) logic n a (now names) (now links) i (now values) ⌝ }
+    ensures { λ r. ⌜ r ≡ gradeFrom logic n a (now (names .entry)) (now (links .entry)) (now (values .entry)) i (termAt (now (terms .entry)) i) e ⌝ }
 {
     let kind = terms[3 * i];
     let x = terms[3 * i + 1];
     let y = terms[3 * i + 2];
-    if kind == 0 {
-        return name_grade(names, a, x, e);
+    match kind {
+        0 => name_grade(names, a, x, e),
+        4 | 5 => taken_at(logic, kind, n, links, x, values, y, e),
+        _ => plain_grade(kind, x, y, i, logic, values, e),
     }
-    if kind == 4 {
-        return some_at(n, links, x, values, y, e);
-    }
-    if kind == 5 {
-        return all_at(steps, n, links, x, values, y, e);
-    }
-    plain_grade(kind, x, y, i, steps, values, e)
 }
 
 // ---- all terms at all elements
@@ -179,21 +162,21 @@ fn grade(
 fn fill_column(
     terms: &[u8],
     i: usize,
-    steps: u8,
+    logic: Logic,
     n: usize,
     a: usize,
     names: &[u8],
     links: &[u8],
     values: &mut [u8],
 )
-    requires { ⌜ Ready (now terms) steps n a (now names) (now links) ⌝ }
+    requires { ⌜ Ready (now terms) logic n a (now names) (now links) ⌝ }
     requires { ⌜ (i < termCount (now terms)) × (4096 ≤ length (now values)) ⌝ }
-    requires { ⌜ WorkedTo (now terms) steps n a (now names) (now links) i (now values) ⌝ }
-    ensures { λ r. ⌜ WorkedTo (now (terms .entry)) steps n a (now (names .entry)) (now (links .entry)) (i + 1) (now (values .exit)) ⌝ }
+    requires { ⌜ WorkedTo (now terms) logic n a (now names) (now links) i (now values) ⌝ }
+    ensures { λ r. ⌜ WorkedTo (now (terms .entry)) logic n a (now (names .entry)) (now (links .entry)) (i + 1) (now (values .exit)) ⌝ }
 {
     let mut e = 0;
     while e < n {
-        let g = grade(terms, i, steps, n, a, names, links, values, e);
+        let g = grade(terms, i, logic, n, a, names, links, values, e);
         values[64 * i + e] = g;
         e += 1;
     }
@@ -202,7 +185,7 @@ fn fill_column(
 // Fills the columns, term by term, so that children come first. The contract alone looks at `roles`: so far do the links reach.
 pub fn work_out(
     terms: &[u8],
-    steps: u8,
+    logic: Logic,
     n: usize,
     a: usize,
     roles: usize,
@@ -210,14 +193,14 @@ pub fn work_out(
     links: &[u8],
     values: &mut [u8],
 )
-    requires { ⌜ Workable (now terms) steps n a roles (now names) (now links) ⌝ }
+    requires { ⌜ Workable (now terms) logic n a roles (now names) (now links) ⌝ }
     requires { ⌜ 4096 ≤ length (now values) ⌝ }
-    ensures { λ r. ⌜ WorkedAll (now (terms .entry)) steps n a (now (names .entry)) (now (links .entry)) (now (values .exit)) ⌝ }
+    ensures { λ r. ⌜ WorkedAll (now (terms .entry)) logic n a (now (names .entry)) (now (links .entry)) (now (values .exit)) ⌝ }
 {
     let count = terms.len() / 3;
     let mut i = 0;
     while i < count {
-        fill_column(terms, i, steps, n, a, names, links, values);
+        fill_column(terms, i, logic, n, a, names, links, values);
         i += 1;
     }
 }

@@ -13,12 +13,14 @@ use Rattle.chain.specs.Lists.{table, index}
 use Rattle.chain.proofs.Decisions.{tells-map, tells-eq}
 use Rattle.chain.proofs.Lists.{length-table}
 use Rattle.semantics.specs.Terms.{Term, name, term}
-use Rattle.semantics.specs.Interpretations.{Grading, graded}
+use Rattle.semantics.specs.Interpretations.{Grading}
 use Rattle.semantics.specs.Candidates.{named?, bearer, gradeIn}
 use Rattle.sections.specs.Terms.{kindByte, aByte, kindAt, aAt, termCount, termsOf, TermsRight}
 use Rattle.sections.proofs.Terms.{term-kind, term-at, terms-ordered}
+use Rattle.gradings.specs.Gradings.{grading}
+use Rattle.gradings.specs.declared.Logic.{Logic}
 use Rattle.grades.specs.Rows.{rowAt}
-use Rattle.grades.proofs.Rows.{linkOfRows-link}
+use Rattle.grades.proofs.Rows.{rows-between}
 use Rattle.sheets.specs.Layout.{linksAt, individualsAt, endAt, Indexable}
 use Rattle.sheets.specs.Writing.{sheetBytes}
 use Rattle.sheets.specs.declared.Shape.{Shape}
@@ -53,28 +55,28 @@ module _ (ts : List Term) (a : ℕ) (row : List ℕ) where
 
 -- ---- the interpretation by rows
 
-module _ (N : ℕ) (s : List ℕ) (ok : TermsRight s) (rows xs seats : List ℕ) (holds : HoldsRows (graded N (termsOf s)) xs (length xs) rows) where
+module _ (lg : Logic) (s : List ℕ) (ok : TermsRight s) (rows xs seats : List ℕ) (holds : HoldsRows (grading lg (termsOf s)) xs (length xs) rows) where
   abbrev G : Grading
-  G = graded N (termsOf s)
+  G = grading lg (termsOf s)
 
   name-agrees : (a e : ℕ) → e < length xs → (w : First (named? (termsOf s) a) (length (termsOf s)))
       → ⊎-elim (λ u. getD (rowAt rows e) (u .0) 0) (λ _. 0) w ≡ ⊎-elim (λ u. gradeIn G (getD xs e 0) (u .0)) (λ _. 0) w
   name-agrees a e h (inl u) = holds e h (u .0) (u .1)
   name-agrees a e h (inr f) = refl
 
-  rows-agree : (A R I : ℕ) → Agree A R I (modelOf N s xs seats) (rowsIn N s rows xs seats)
+  rows-agree : (A R I : ℕ) → Agree A R I (modelOf lg s xs seats) (rowsIn lg s rows xs seats)
   unfolding nameIn
   rows-agree A R I = record {
     size-same = refl;
     names-same = λ a e _ h. name-agrees a e h (bearer (termsOf s) a);
-    links-same = λ r e f _ h g. linkOfRows-link N (termsOf s) (terms-ordered s ok) r (getD xs e 0) (getD xs f 0) _ _ (holds e h) (holds f g);
+    links-same = λ r e f _ h g. rows-between lg (termsOf s) (terms-ordered s ok) r (getD xs e 0) (getD xs f 0) (rowAt rows e) (rowAt rows f) (holds e h) (holds f g);
     element-same = λ j _. refl;
   }
 
   -- so its sheet, at the front of a list, is that of the types
-  pub rows-sheet : (A R I : ℕ) (l rest : List ℕ) → l ≡ sheetBytes N A R I (rowsIn N s rows xs seats) ++ rest
-      → l ≡ sheetBytes N A R I (modelOf N s xs seats) ++ rest
-  rows-sheet A R I l rest e = e ∙ ap (λ (b : List ℕ). b ++ rest) (sheet-same N A R I _ _ (rows-agree A R I))
+  pub rows-sheet : (N A R I : ℕ) (l rest : List ℕ) → l ≡ sheetBytes N A R I (rowsIn lg s rows xs seats) ++ rest
+      → l ≡ sheetBytes N A R I (modelOf lg s xs seats) ++ rest
+  rows-sheet N A R I l rest e = e ∙ ap (λ (b : List ℕ). b ++ rest) (sheet-same N A R I _ _ (rows-agree A R I))
 
 -- ---- the layout
 
@@ -98,21 +100,21 @@ module _ (ts : List Term) (rows : List ℕ) (A : ℕ) where
   pub length-nameRow : (e : ℕ) → length (nameRow e) ≡ A
   length-nameRow e = length-table (λ a. nameIn ts a (rowAt rows e)) A
 
-module _ (N : ℕ) (ts : List Term) (rows : List ℕ) (n : ℕ) where
+module _ (lg : Logic) (ts : List Term) (rows : List ℕ) (n : ℕ) where
   -- one element's links for a role
   abbrev pub linkRow : ℕ → ℕ → List ℕ
-  linkRow r e = table (λ f. linkIn N ts rows r e f) n
+  linkRow r e = table (λ f. linkIn lg ts rows r e f) n
 
   pub length-linkRow : (r e : ℕ) → length (linkRow r e) ≡ n
-  length-linkRow r e = length-table (λ f. linkIn N ts rows r e f) n
+  length-linkRow r e = length-table (λ f. linkIn lg ts rows r e f) n
 
-  pub length-square : (r : ℕ) → length (squareBy N ts rows n r) ≡ n * n
+  pub length-square : (r : ℕ) → length (squareBy lg ts rows n r) ≡ n * n
   unfolding squareBy
   length-square r = length-blocks (linkRow r) n (length-linkRow r) 0 n
 
-  pub length-linksBy : (R : ℕ) → length (linksBy N ts rows n R) ≡ R * (n * n)
+  pub length-linksBy : (R : ℕ) → length (linksBy lg ts rows n R) ≡ R * (n * n)
   unfolding linksBy
-  length-linksBy R = length-blocks (squareBy N ts rows n) (n * n) length-square 0 R
+  length-linksBy R = length-blocks (squareBy lg ts rows n) (n * n) length-square 0 R
 
 length-namesBy : (ts : List Term) (rows : List ℕ) (A n : ℕ) → length (namesBy ts rows A n) ≡ n * A
 unfolding namesBy
@@ -125,20 +127,20 @@ length-headBy N p = refl
 -- ---- the whole sheet
 
 -- the head and the bodies are those of the interpretation by rows
-pub sheet-by : (N : ℕ) (s rows xs seats : List ℕ) (p : Shape) → p .elements ≡ length xs → p .individuals ≡ length seats
-    → headBy N p ++ namesBy (termsOf s) rows (p .names) (p .elements) ++ linksBy N (termsOf s) rows (p .elements) (p .roles)
-    ++ table (λ j. index xs (getD seats j 0)) (length seats) ≡ sheetBytes N (p .names) (p .roles) (p .individuals) (rowsIn N s rows xs seats)
+pub sheet-by : (N : ℕ) (lg : Logic) (s rows xs seats : List ℕ) (p : Shape) → p .elements ≡ length xs → p .individuals ≡ length seats
+    → headBy N p ++ namesBy (termsOf s) rows (p .names) (p .elements) ++ linksBy lg (termsOf s) rows (p .elements) (p .roles)
+    ++ table (λ j. index xs (getD seats j 0)) (length seats) ≡ sheetBytes N (p .names) (p .roles) (p .individuals) (rowsIn lg s rows xs seats)
 unfolding sheetBytes namesBy linksBy squareBy
-sheet-by N s rows xs seats p e i = rw (e, i)
+sheet-by N lg s rows xs seats p e i = rw (e, i)
 
 -- .. and the code's four stretches make it
-module _ (N : ℕ) (s rows xs seats : List ℕ) (p : Shape) (elements : p .elements ≡ length xs) (individuals : p .individuals ≡ length seats) where
+module _ (N : ℕ) (lg : Logic) (s rows xs seats : List ℕ) (p : Shape) (elements : p .elements ≡ length xs) (individuals : p .individuals ≡ length seats) where
   pub sheet-written : (d h ns ls js : List ℕ) (l i e : ℕ) → h ≡ headBy N p → ns ≡ namesBy (termsOf s) rows (p .names) (p .elements)
-      → ls ≡ linksBy N (termsOf s) rows (p .elements) (p .roles) → js ≡ table (λ j. index xs (getD seats j 0)) (length seats) → l ≡ linksAt p → i ≡ individualsAt p
+      → ls ≡ linksBy lg (termsOf s) rows (p .elements) (p .roles) → js ≡ table (λ j. index xs (getD seats j 0)) (length seats) → l ≡ linksAt p → i ≡ individualsAt p
       → e ≡ endAt p → pasted (pasted (pasted (pasted d 0 12 h) 12 l ns) l i ls) i e js
-      ≡ sheetBytes N (p .names) (p .roles) (p .individuals) (rowsIn N s rows xs seats) ++ drop (endAt p) d
+      ≡ sheetBytes N (p .names) (p .roles) (p .individuals) (rowsIn lg s rows xs seats) ++ drop (endAt p) d
   sheet-written d h ns ls js l i e eh en el ej ql qi qe =
       paste-four d h ns ls js l i e (ap length eh ∙ length-headBy N p)
       (ap length en ∙ length-namesBy (termsOf s) rows (p .names) (p .elements) ∙ omega arith)
-      (ap length el ∙ length-linksBy N (termsOf s) rows (p .elements) (p .roles) ∙ omega arith) (omega arith) (omega arith) (omega arith)
-      ∙ rw (eh, en, el, ej, qe) (ap (λ (b : List ℕ). b ++ drop (endAt p) d) (sheet-by N s rows xs seats p elements individuals))
+      (ap length el ∙ length-linksBy lg (termsOf s) rows (p .elements) (p .roles) ∙ omega arith) (omega arith) (omega arith) (omega arith)
+      ∙ rw (eh, en, el, ej, qe) (ap (λ (b : List ℕ). b ++ drop (endAt p) d) (sheet-by N lg s rows xs seats p elements individuals))

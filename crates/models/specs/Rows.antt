@@ -6,10 +6,13 @@ use Prim.Native.Nat.{ℕ, _≤_}
 use lib.ListN.{length, getD}
 use Rattle.chain.specs.Lists.{table, from, index}
 use Rattle.semantics.specs.Terms.{Term}
-use Rattle.semantics.specs.Interpretations.{Grading, graded, Interpretation}
+use Rattle.semantics.specs.Interpretations.{Grading, Interpretation}
 use Rattle.semantics.specs.Candidates.{bearer}
+use Rattle.semantics.specs.Links.{linkBetween}
 use Rattle.sections.specs.Terms.{termsOf}
-use Rattle.grades.specs.Rows.{HasGrades, rowAt, EachRow, linkOfRows}
+use Rattle.gradings.specs.Gradings.{grading}
+use Rattle.gradings.specs.declared.Logic.{Logic}
+use Rattle.grades.specs.Rows.{HasGrades, entry, rowAt, EachRow}
 use Rattle.sheets.specs.Reading.{interpretation}
 use Rattle.sheets.specs.Writing.{headBytes}
 use Rattle.sheets.specs.declared.Shape.{Shape}
@@ -24,9 +27,9 @@ pub record Small (p : Shape) : Type 0 where
   pub roles-le : p .roles ≤ 8
   pub individuals-le : p .individuals ≤ 8
 
--- the interpretation of the candidates in xs, on N steps with the terms of section s: individual j sits at the type seats[j]
-abbrev pub modelOf : (N : ℕ) (s xs seats : List ℕ) → Interpretation
-modelOf N s xs seats = typesIn (graded N (termsOf s)) xs (λ j. index xs (getD seats j 0))
+-- the interpretation of the candidates in xs, by the logic l with the terms of section s: individual j sits at the type seats[j]
+abbrev pub modelOf : Logic → (s xs seats : List ℕ) → Interpretation
+modelOf l s xs seats = typesIn (grading l (termsOf s)) xs (λ j. index xs (getD seats j 0))
 
 -- ---- by rows
 
@@ -39,15 +42,15 @@ unfoldable pub nameIn : List Term → (a : ℕ) (row : List ℕ) → ℕ
 nameIn ts a row = ⊎-elim (λ u. getD row (u .0) 0) (λ _. 0) (bearer ts a)
 
 -- the link of two rows of the table
-abbrev pub linkIn : (N : ℕ) → List Term → (rows : List ℕ) (r e f : ℕ) → ℕ
-linkIn N ts rows r e f = linkOfRows N ts r (rowAt rows e) (rowAt rows f)
+abbrev pub linkIn : Logic → List Term → (rows : List ℕ) (r e f : ℕ) → ℕ
+linkIn l ts rows r e f = linkBetween (grading l ts) r (entry (rowAt rows e)) (entry (rowAt rows f))
 
 -- the interpretation, its names and links worked out from the rows
-abbrev pub rowsIn : (N : ℕ) (s rows xs seats : List ℕ) → Interpretation
-rowsIn N s rows xs seats = record {
+abbrev pub rowsIn : Logic → (s rows xs seats : List ℕ) → Interpretation
+rowsIn l s rows xs seats = record {
   size = length xs;
   names = λ a e. nameIn (termsOf s) a (rowAt rows e);
-  links = λ r e f. linkIn N (termsOf s) rows r e f;
+  links = λ r e f. linkIn l (termsOf s) rows r e f;
   element = λ j. index xs (getD seats j 0);
 }
 
@@ -58,11 +61,11 @@ unfoldable pub namesBy : List Term → (rows : List ℕ) (A n : ℕ) → List �
 namesBy ts rows A n = flatMap (λ e. table (λ a. nameIn ts a (rowAt rows e)) A) (from 0 n)
 
 -- the links of n elements for one role, and for R roles
-unfoldable pub squareBy : (N : ℕ) → List Term → (rows : List ℕ) (n r : ℕ) → List ℕ
-squareBy N ts rows n r = flatMap (λ e. table (λ f. linkIn N ts rows r e f) n) (from 0 n)
+unfoldable pub squareBy : Logic → List Term → (rows : List ℕ) (n r : ℕ) → List ℕ
+squareBy l ts rows n r = flatMap (λ e. table (λ f. linkIn l ts rows r e f) n) (from 0 n)
 
-unfoldable pub linksBy : (N : ℕ) → List Term → (rows : List ℕ) (n R : ℕ) → List ℕ
-linksBy N ts rows n R = flatMap (squareBy N ts rows n) (from 0 R)
+unfoldable pub linksBy : Logic → List Term → (rows : List ℕ) (n R : ℕ) → List ℕ
+linksBy l ts rows n R = flatMap (squareBy l ts rows n) (from 0 R)
 
 -- the head, which looks at the counts alone
 abbrev pub headBy : (N : ℕ) → Shape → List ℕ

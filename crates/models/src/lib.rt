@@ -1,13 +1,13 @@
 // Listing the marked candidates, and writing the sheet of their interpretation.
 ghost use mathlib.Core.Path.{_≡_};
 ghost use mathlib.Core.List.{_++_};
-ghost use Prim.Native.Nat.{ℕ, _+_, _*_, _<_, _≤_};
+ghost use Prim.Native.Nat.{_+_, _*_, _<_, _≤_};
 ghost use lib.ListN.{length, getD, take, drop};
 ghost use Rattle.chain.specs.Decisions.{Tells};
 ghost use Rattle.chain.specs.Lists.{table, index};
 ghost use Rattle.semantics.specs.Terms.{term, name};
-ghost use Rattle.semantics.specs.Interpretations.{graded};
 ghost use Rattle.sections.specs.Terms.{termCount, termsOf, TermsRight};
+ghost use Rattle.gradings.specs.Gradings.{grading};
 ghost use Rattle.sheets.specs.Layout.{endAt};
 ghost use Rattle.sheets.specs.Writing.{shapeFor, sheetBytes};
 ghost use Rattle.elimination.specs.Marks.{marked};
@@ -16,6 +16,7 @@ ghost use Rattle.models.specs.Rows.{Small, modelOf, HoldsRows, nameIn, l
 use book::write_word;
 use grades::put_row;
 use grades::row_at;
+use gradings::Logic;
 use sections::wide;
 use sheets::Shape;
 
@@ -58,14 +59,14 @@ fn number(c: u16) -> usize
 }
 
 // Fills the table with the rows of the candidates in `types`, 64 grades each.
-fn fill_rows(terms: &[u8], steps: u8, types: &[u16], rows: &mut [u8])
+fn fill_rows(terms: &[u8], logic: Logic, types: &[u16], rows: &mut [u8])
     requires { ⌜ TermsRight (now terms) ⌝ }
     requires { ⌜ (termCount (now terms) ≤ 64) × (length (now types) ≤ 64) × (4096 ≤ length (now rows)) ⌝ }
-    ensures { λ _. ⌜ HoldsRows (graded steps (termsOf (now (terms .entry)))) (now (types .entry)) (length (now (types .entry))) (now (rows .exit)) ⌝ }
+    ensures { λ _. ⌜ HoldsRows (grading logic (termsOf (now (terms .entry)))) (now (types .entry)) (length (now (types .entry))) (now (rows .exit)) ⌝ }
 {
     let mut e = 0;
     while e < types.len() {
-        put_row(terms, steps, number(types[e]), rows, e);
+        put_row(terms, logic, number(types[e]), rows, e);
         e += 1;
     }
 }
@@ -129,53 +130,53 @@ fn write_names(terms: &[u8], names: usize, rows: &[u8], n: usize, body: &mut [u8
 
 // ---- the links
 
-fn link_at(terms: &[u8], steps: u8, role: u8, rows: &[u8], e: usize, f: usize) -> u8
+fn link_at(terms: &[u8], logic: Logic, role: u8, rows: &[u8], e: usize, f: usize) -> u8
     requires { ⌜ TermsRight (now terms) ⌝ }
     requires { ⌜ (termCount (now terms) ≤ 64) × (e < 64) × (f < 64) × (4096 ≤ length (now rows)) ⌝ }
-    ensures { λ r. ⌜ r ≡ linkIn steps (termsOf (now (terms .entry))) (now (rows .entry)) role e f ⌝ }
+    ensures { λ r. ⌜ r ≡ linkIn logic (termsOf (now (terms .entry))) (now (rows .entry)) role e f ⌝ }
 {
-    grades::link_of_rows(terms, steps, role, row_at(rows, e), row_at(rows, f))
+    grades::link_of_rows(terms, logic, role, row_at(rows, e), row_at(rows, f))
 }
 
 // Writes the links of `role` from element `e` to each.
-fn write_link_row(terms: &[u8], steps: u8, role: u8, rows: &[u8], e: usize, body: &mut [u8])
+fn write_link_row(terms: &[u8], logic: Logic, role: u8, rows: &[u8], e: usize, body: &mut [u8])
     requires { ⌜ TermsRight (now terms) ⌝ }
     requires { ⌜ (termCount (now terms) ≤ 64) × (e < 64) × (4096 ≤ length (now rows)) × (length (now body) ≤ 64) ⌝ }
-    ensures { λ _. ⌜ now (body .exit) ≡ table (λ f. linkIn steps (termsOf (now (terms .entry))) (now (rows .entry)) role e f) (length (now (body .entry))) ⌝ }
+    ensures { λ _. ⌜ now (body .exit) ≡ table (λ f. linkIn logic (termsOf (now (terms .entry))) (now (rows .entry)) role e f) (length (now (body .entry))) ⌝ }
 {
     let mut f = 0;
     while f < body.len() {
-        body[f] = link_at(terms, steps, role, rows, e, f);
+        body[f] = link_at(terms, logic, role, rows, e, f);
         f += 1;
     }
 }
 
 // Writes the links of `role` between `n` elements.
-fn write_square(terms: &[u8], steps: u8, role: u8, rows: &[u8], n: usize, body: &mut [u8])
+fn write_square(terms: &[u8], logic: Logic, role: u8, rows: &[u8], n: usize, body: &mut [u8])
     requires { ⌜ TermsRight (now terms) ⌝ }
     requires { ⌜ (termCount (now terms) ≤ 64) × (n ≤ 64) × (4096 ≤ length (now rows)) × (length (now body) ≡ n * n) ⌝ }
-    ensures { λ _. ⌜ now (body .exit) ≡ squareBy steps (termsOf (now (terms .entry))) (now (rows .entry)) n role ⌝ }
+    ensures { λ _. ⌜ now (body .exit) ≡ squareBy logic (termsOf (now (terms .entry))) (now (rows .entry)) n role ⌝ }
 {
     let mut e = 0;
     while e < n {
         let start = e * n;
         let end = start + n;
-        write_link_row(terms, steps, role, rows, e, &mut body[start..end]);
+        write_link_row(terms, logic, role, rows, e, &mut body[start..end]);
         e += 1;
     }
 }
 
 // Writes the links of `n` elements for each of `roles`.
-fn write_links(terms: &[u8], steps: u8, roles: usize, rows: &[u8], n: usize, body: &mut [u8])
+fn write_links(terms: &[u8], logic: Logic, roles: usize, rows: &[u8], n: usize, body: &mut [u8])
     requires { ⌜ TermsRight (now terms) ⌝ }
     requires { ⌜ (termCount (now terms) ≤ 64) × (roles ≤ 8) × (n ≤ 64) × (4096 ≤ length (now rows)) × (length (now body) ≡ roles * (n * n)) ⌝ }
-    ensures { λ _. ⌜ now (body .exit) ≡ linksBy steps (termsOf (now (terms .entry))) (now (rows .entry)) n roles ⌝ }
+    ensures { λ _. ⌜ now (body .exit) ≡ linksBy logic (termsOf (now (terms .entry))) (now (rows .entry)) n roles ⌝ }
 {
     let mut r = 0;
     while r < roles {
         let start = r * (n * n);
         let end = start + n * n;
-        write_square(terms, steps, r as u8, rows, n, &mut body[start..end]);
+        write_square(terms, logic, r as u8, rows, n, &mut body[start..end]);
         r += 1;
     }
 }
@@ -231,9 +232,10 @@ fn write_head(steps: u8, p: Shape, head: &mut [u8])
 
 // ---- the sheet
 
-// Writes the sheet from the rows of the types.
+// Writes the sheet from the rows of the types. The book's own number of steps stands in the head alone.
 fn write_sheet(
     terms: &[u8],
+    logic: Logic,
     steps: u8,
     p: Shape,
     types: &[u16],
@@ -244,7 +246,7 @@ fn write_sheet(
     requires { ⌜ TermsRight (now terms) ⌝ }
     requires { ⌜ (termCount (now terms) ≤ 64) × (4096 ≤ length (now rows)) × Small p ⌝ }
     requires { ⌜ (p .elements ≡ length (now types)) × (p .individuals ≡ length (now seats)) × (endAt p ≤ length (now sheet)) ⌝ }
-    ensures { λ _. ⌜ now (sheet .exit) ≡ sheetBytes steps (p .names) (p .roles) (p .individuals) (rowsIn steps (now (terms .entry)) (now (rows .entry)) (now (types .entry)) (now (seats .entry))) ++ drop (endAt p) (now (sheet .entry)) ⌝ }
+    ensures { λ _. ⌜ now (sheet .exit) ≡ sheetBytes steps (p .names) (p .roles) (p .individuals) (rowsIn logic (now (terms .entry)) (now (rows .entry)) (now (types .entry)) (now (seats .entry))) ++ drop (endAt p) (now (sheet .entry)) ⌝ }
 {
     let links = sheets::links_at(p);
     let individuals = sheets::individuals_at(p);
@@ -253,7 +255,7 @@ fn write_sheet(
     write_names(terms, p.names, rows, p.elements, &mut sheet[12..links]);
     write_links(
         terms,
-        steps,
+        logic,
         p.roles,
         rows,
         p.elements,
@@ -265,6 +267,7 @@ fn write_sheet(
 // Writes the sheet of the candidates in `types`, with individual j at the type seats[j].
 pub fn write_model(
     terms: &[u8],
+    logic: Logic,
     steps: u8,
     names: usize,
     roles: usize,
@@ -274,16 +277,16 @@ pub fn write_model(
 )
     requires { ⌜ TermsRight (now terms) ⌝ }
     requires { ⌜ (length (now types) ≤ 64) × (termCount (now terms) ≤ 64) × (names ≤ 16) × (roles ≤ 8) × (length (now seats) ≤ 8) ⌝ }
-    requires { ⌜ endAt (shapeFor steps names roles (length (now seats)) (modelOf steps (now terms) (now types) (now seats))) ≤ length (now sheet) ⌝ }
-    ensures { λ _. ⌜ now (sheet .exit) ≡ sheetBytes steps names roles (length (now (seats .entry))) (modelOf steps (now (terms .entry)) (now (types .entry)) (now (seats .entry))) ++ drop (endAt (shapeFor steps names roles (length (now (seats .entry))) (modelOf steps (now (terms .entry)) (now (types .entry)) (now (seats .entry))))) (now (sheet .entry)) ⌝ }
+    requires { ⌜ endAt (shapeFor steps names roles (length (now seats)) (modelOf logic (now terms) (now types) (now seats))) ≤ length (now sheet) ⌝ }
+    ensures { λ _. ⌜ now (sheet .exit) ≡ sheetBytes steps names roles (length (now (seats .entry))) (modelOf logic (now (terms .entry)) (now (types .entry)) (now (seats .entry))) ++ drop (endAt (shapeFor steps names roles (length (now (seats .entry))) (modelOf logic (now (terms .entry)) (now (types .entry)) (now (seats .entry))))) (now (sheet .entry)) ⌝ }
 {
     let mut rows = [0u8; 4096];
-    fill_rows(terms, steps, types, &mut rows);
+    fill_rows(terms, logic, types, &mut rows);
     let p = Shape {
         elements: types.len(),
         names: names,
         roles: roles,
         individuals: seats.len(),
     };
-    write_sheet(terms, steps, p, types, seats, &rows, sheet);
+    write_sheet(terms, logic, steps, p, types, seats, &rows, sheet);
 }

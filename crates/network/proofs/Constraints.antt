@@ -1,16 +1,13 @@
 -- Laws of lists of constraints: those of a part, and a constraint that is put behind others.
 -- Assumes nothing.
 use mathlib.Core.Path.{_≡_, ap, _∙_}
-use mathlib.Core.Bool.{Bool}
 use mathlib.Core.List.{List}
-use Prim.Native.Nat.{ℕ, _+_, _-_, _*_, _≤_, _<_, min, max}
+use Prim.Native.Nat.{ℕ, _+_, _-_, _*_, _≤_, _<_}
 use native.Mathlib.Omega.{arith}
 use lib.ListN.{length, getD, take, drop, set, length-drop, length-set}
 use lib.Seq.{length-take-le, getD-take, getD-drop, getD-set-same, getD-set-other}
-use Rattle.chain.specs.Decisions.{Tells}
-use Rattle.chain.proofs.Decisions.{tells-map}
 use Rattle.network.specs.declared.Constraint.{Constraint}
-use Rattle.network.specs.Constraints.{constraintCount, constraintAt, Met}
+use Rattle.network.specs.Constraints.{constraintCount, constraintAt}
 
 -- lists with the same first bytes have the same constraints there
 pub same-constraint : (s t : List ℕ) (m : ℕ) → ((z : ℕ) → z < 4 * m → getD t z 0 ≡ getD s z 0) → (y : ℕ) → y < m → constraintAt t y ≡ constraintAt s y
@@ -77,12 +74,3 @@ module _ (s : List ℕ) (m : ℕ) (k : Constraint) where
       getD-set-other s3 (4 * m + 3) (4 * m + 2) (k .child) 0 (omega arith) ∙ getD-set-same s2 (4 * m + 2) (k .own) 0 (omega arith) in
       let k3 : getD (putAt s m k) (4 * m + 3) 0 ≡ k .child = getD-set-same s3 (4 * m + 3) (k .child) 0 (omega arith) in
       rw (k0, k1, k2, k3)
-
--- ---- a test of a constraint, by its kind
-
-module _ (N : ℕ) (k : Constraint) (a b : List ℕ) (own child : ℕ) (eo : own ≡ k .own) (ec : child ≡ k .child) (r : Bool) where
-  pub tells-some : k .kind ≡ 4 → Tells r (min (k .level) (getD b child 0) ≤ getD a own 0) → Tells r (Met N k a b)
-  tells-some e = tells-map r (λ h. (λ _. rw (← eo, ← ec) h, λ f. absurd (omega arith))) (λ m. rw (eo, ec) (m .0 e))
-
-  pub tells-all : k .kind ≡ 5 → Tells r (getD a own 0 ≤ max (N - k .level) (getD b child 0)) → Tells r (Met N k a b)
-  tells-all e = tells-map r (λ h. (λ f. absurd (omega arith), λ _. rw (← eo, ← ec) h)) (λ m. rw (eo, ec) (m .1 e))

@@ -1,9 +1,13 @@
 -- Constraints: what one quantified term asks of the rows of two individuals, through a link of a claimed level from the one to the other.
 -- Assumes nothing.
-use mathlib.Core.Path.{_≡_}
 use mathlib.Core.List.{List}
-use Prim.Native.Nat.{ℕ, _+_, _-_, _*_, _/_, _≤_, _<_, min, max}
+use Prim.Native.Nat.{ℕ, _+_, _*_, _/_, _≤_, _<_}
 use lib.ListN.{length, getD}
+use Rattle.chain.specs.Connectives.{Permits}
+use Rattle.sections.specs.Terms.{quantifierOf}
+use Rattle.gradings.specs.Gradings.{connectivesOf}
+use Rattle.gradings.specs.declared.Logic.{Logic}
+use Rattle.grades.specs.Rows.{entry}
 use Rattle.network.specs.declared.Constraint.{Constraint}
 
 -- four bytes each: kind, level, own term, child
@@ -14,26 +18,24 @@ module _ (s : List ℕ) where
   abbrev pub constraintAt : ℕ → Constraint
   constraintAt y = record { kind = getD s (4 * y) 0; level = getD s (4 * y + 1) 0; own = getD s (4 * y + 2) 0; child = getD s (4 * y + 3) 0 }
 
--- "for each "all" term .. max(N − s, child in the second) is at least its grade in the first, and for each "some" term min(s, child in the
--- second) is at most its grade in the first": of the row a of a link's source and the row b of its target
-abbrev pub Met : (N : ℕ) → Constraint → (a b : List ℕ) → Type 0
-Met N k a b =
-    (k .kind ≡ 4 → min (k .level) (getD b (k .child) 0) ≤ getD a (k .own) 0)
-    × (k .kind ≡ 5 → getD a (k .own) 0 ≤ max (N - k .level) (getD b (k .child) 0))
+-- the term allows a link of this level: by the row a of the link's source and the row b of its target
+abbrev pub Met : Logic → Constraint → (a b : List ℕ) → Type 0
+Met l k a b = Permits (connectivesOf l) (quantifierOf (k .kind)) (k .level) (entry b (k .child)) (entry a (k .own))
 
 -- every constraint of the list is met
-abbrev pub AllMet : (N : ℕ) (s a b : List ℕ) → Type 0
-AllMet N s a b = (y : ℕ) → y < constraintCount s → Met N (constraintAt s y) a b
+abbrev pub AllMet : Logic → (s a b : List ℕ) → Type 0
+AllMet l s a b = (y : ℕ) → y < constraintCount s → Met l (constraintAt s y) a b
 
--- a constraint on terms below m, on N steps
-pub record Right (N m : ℕ) (k : Constraint) : Type 0 where
-  pub level-le : k .level ≤ N
+-- a constraint on terms below m, on the chain
+pub record Right (l : Logic) (m : ℕ) (k : Constraint) : Type 0 where
+  pub kinds : (4 ≤ k .kind) × (k .kind ≤ 5)
+  pub level-le : k .level ≤ l .steps
   pub own-lt : k .own < m
   pub child-lt : k .child < m
 
-abbrev pub AllRight : (N m : ℕ) (s : List ℕ) → Type 0
-AllRight N m s = (y : ℕ) → y < constraintCount s → Right N m (constraintAt s y)
+abbrev pub AllRight : Logic → (m : ℕ) (s : List ℕ) → Type 0
+AllRight l m s = (y : ℕ) → y < constraintCount s → Right l m (constraintAt s y)
 
 -- a row whose first m grades are on the chain
-abbrev pub OnChain : (N m : ℕ) (v : List ℕ) → Type 0
-OnChain N m v = (t : ℕ) → t < m → getD v t 0 ≤ N
+abbrev pub OnChain : Logic → (m : ℕ) (v : List ℕ) → Type 0
+OnChain l m v = (t : ℕ) → t < m → entry v t ≤ l .steps

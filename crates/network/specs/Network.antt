@@ -1,16 +1,18 @@
 -- The link claims as a network of constraints: a list of constraints for each ordered pair of individuals.
 -- Assumes nothing.
 use mathlib.Core.Path.{_≡_}
-use mathlib.Core.Logic.{_↔_}
 use mathlib.Core.List.{List}
 use Prim.Native.Nat.{ℕ, _+_, _-_, _*_, _≤_, _<_}
 use lib.ListN.{length, getD, take, drop}
-use Rattle.sections.specs.Terms.{termCount, termsOf}
+use Rattle.semantics.specs.Interpretations.{Grading}
+use Rattle.semantics.specs.Links.{Allows}
 use Rattle.sections.specs.Claims.{claimCount, linkAt}
-use Rattle.grades.specs.Rows.{RowsAllow}
-use Rattle.grades.specs.OneTerm.{TermAllows}
-use Rattle.network.specs.Levels.{pairOf, levelAt}
-use Rattle.network.specs.Constraints.{constraintAt, Met, AllMet, Right, AllRight, OnChain}
+use Rattle.gradings.specs.declared.Logic.{Logic}
+use Rattle.slots.specs.Slots.{slotCount, slotKind, slotRole, slotChild, slotTerm}
+use Rattle.grades.specs.Rows.{entry}
+use Rattle.network.specs.Levels.{pairOf, levelAt, LevelsOf}
+use Rattle.network.specs.Constraints.{constraintCount, constraintAt, AllRight}
+use Rattle.network.specs.declared.Constraint.{Constraint}
 
 -- ---- the lists, one behind the other; entry x of the ends is where pair x begins, and entry x + 1 where it ends
 
@@ -26,49 +28,56 @@ module _ (net ends : List ℕ) where
   abbrev pub Laid : Type 0
   Laid = (x : ℕ) → x < 64 → (getD ends x 0 ≤ getD ends (x + 1) 0) × (4 * getD ends (x + 1) 0 ≤ length net) × (getD ends (x + 1) 0 ≤ getD ends x 0 + 64)
 
--- a network over m terms, on N steps
-pub record Wired (N m : ℕ) (net ends : List ℕ) : Type 0 where
+-- a network over m terms
+pub record Wired (l : Logic) (m : ℕ) (net ends : List ℕ) : Type 0 where
   pub laid : Laid net ends
   pub long : 65 ≤ length ends
-  pub right : (x : ℕ) → x < 64 → AllRight N m (constraintsOf net ends x)
+  pub right : (x : ℕ) → x < 64 → AllRight l m (constraintsOf net ends x)
   pub few : m ≤ 64
 
--- ---- what they stand for, by the rows a and b of two individuals
+-- ---- where the constraints come from
 
-module _ (N : ℕ) (ts : List ℕ) where
-  -- every link claim of pair x is met
-  abbrev pub ClaimsMet : (ls : List ℕ) (x : ℕ) (a b : List ℕ) → Type 0
-  ClaimsMet ls x a b =
-      (i : ℕ) → i < claimCount ls → pairOf (linkAt ls i) ≡ x → RowsAllow N (termsOf ts) (linkAt ls i .role) a b (linkAt ls i .grade)
+module _ (slots levels : List ℕ) (x : ℕ) where
+  -- what slot j asks through the strongest link claimed of its role and pair x
+  abbrev pub ofSlot : ℕ → Constraint
+  ofSlot j = record { kind = slotKind slots j; level = levelAt levels (slotRole slots j) x; own = slotTerm slots j; child = slotChild slots j }
 
-  -- the strongest link claimed of each role is allowed
-  abbrev pub LevelsMet : (levels : List ℕ) (x : ℕ) (a b : List ℕ) → Type 0
-  LevelsMet levels x a b = (r : ℕ) → r < 8 → RowsAllow N (termsOf ts) r a b (levelAt levels r x)
+  -- constraints `from` to `to` of the list are those of the slots below b for whose role a link is claimed
+  pub record Lists (b : ℕ) (s : List ℕ) (from to : ℕ) : Type 0 where
+    pub are : (y : ℕ) → from ≤ y → y < to → (j : ℕ) × (j < b) × (constraintAt s y ≡ ofSlot j)
+    pub onto : (j : ℕ) → j < b → 0 < levelAt levels (slotRole slots j) x → (y : ℕ) × (from ≤ y) × (y < to) × (constraintAt s y ≡ ofSlot j)
 
-  -- as far as term i goes
-  abbrev pub TermMet : (levels : List ℕ) (x i : ℕ) (a b : List ℕ) → Type 0
-  TermMet levels x i a b = (r : ℕ) → r < 8 → TermAllows N ts r a b (levelAt levels r x) i
+-- the network is that of the link claims, by their levels
+pub record NetworkOf (slots ls levels net ends : List ℕ) : Type 0 where
+  pub laid : Laid net ends
+  pub levels-of : LevelsOf ls (claimCount ls) levels
+  pub lists : (x : ℕ) → x < 64 → Lists slots levels x (slotCount slots) (constraintsOf net ends x) 0 (constraintCount (constraintsOf net ends x))
 
-  -- the network is that of the link claims
-  pub record NetworkOf (ls net ends : List ℕ) : Type 0 where
-    pub laid : Laid net ends
-    pub right : (x : ℕ) → x < 64 → AllRight N (termCount ts) (constraintsOf net ends x)
-    pub met : (x : ℕ) → x < 64 → (a b : List ℕ) → OnChain N (termCount ts) a → AllMet N (constraintsOf net ends x) a b ↔ ClaimsMet ls x a b
+-- what it stands for (`network-met` of proofs/Network): every link claim of pair x is met, by the rows a and b of the two individuals
+abbrev pub ClaimsMet : Grading → (ls : List ℕ) (x : ℕ) (a b : List ℕ) → Type 0
+ClaimsMet G ls x a b = (i : ℕ) → i < claimCount ls → pairOf (linkAt ls i) ≡ x → Allows G (linkAt ls i .role) (entry a) (entry b) (linkAt ls i .grade)
 
--- ---- on the way: to the first m constraints of `old`, `new` adds those up to r, of terms below k, and they ask what P says
+-- ---- on the way
 
-pub record Added (N k : ℕ) (P : (a b : List ℕ) → Type 0) (old : List ℕ) (m : ℕ) (new : List ℕ) (r : ℕ) : Type 0 where
+-- behind the first m constraints of `old`, `new` has that of slot j, if a link is claimed for its role, up to r
+pub record SlotAdded (slots levels : List ℕ) (x j : ℕ) (old : List ℕ) (m : ℕ) (new : List ℕ) (r : ℕ) : Type 0 where
   pub more : m ≤ r
+  pub few : r ≤ m + 1
   pub kept : (z : ℕ) → z < 4 * m → getD new z 0 ≡ getD old z 0
-  pub right : (y : ℕ) → m ≤ y → y < r → Right N k (constraintAt new y)
-  pub met : (a b : List ℕ) → OnChain N k a → ((y : ℕ) → m ≤ y → y < r → Met N (constraintAt new y) a b) ↔ P a b
+  pub is : m < r → constraintAt new m ≡ ofSlot slots levels x j
+  pub put : 0 < levelAt levels (slotRole slots j) x → m < r
+
+-- behind the first m constraints of `old`, `new` has those of the slots below b, up to r
+pub record Added (slots levels : List ℕ) (x b : ℕ) (old : List ℕ) (m : ℕ) (new : List ℕ) (r : ℕ) : Type 0 where
+  pub more : m ≤ r
+  pub few : r ≤ m + b
+  pub kept : (z : ℕ) → z < 4 * m → getD new z 0 ≡ getD old z 0
+  pub lists : Lists slots levels x b new m r
 
 -- the pairs below k have their lists, which end at m
-pub record Connected (N : ℕ) (ts levels : List ℕ) (k m : ℕ) (net ends : List ℕ) : Type 0 where
+pub record Connected (slots levels : List ℕ) (k m : ℕ) (net ends : List ℕ) : Type 0 where
   pub starts : getD ends 0 0 ≡ 0
   pub end : getD ends k 0 ≡ m
-  pub few : m ≤ 64 * k
-  pub rising : (x : ℕ) → x < k → (getD ends x 0 ≤ getD ends (x + 1) 0) × (getD ends (x + 1) 0 ≤ getD ends x 0 + 64) × (getD ends (x + 1) 0 ≤ m)
-  pub right : (y : ℕ) → y < m → Right N (termCount ts) (constraintAt net y)
-  pub met : (x : ℕ) → x < k → (a b : List ℕ) → OnChain N (termCount ts) a
-      → ((y : ℕ) → getD ends x 0 ≤ y → y < getD ends (x + 1) 0 → Met N (constraintAt net y) a b) ↔ LevelsMet N ts levels x a b
+  pub few : m ≤ 16 * k
+  pub rising : (x : ℕ) → x < k → (getD ends x 0 ≤ getD ends (x + 1) 0) × (getD ends (x + 1) 0 ≤ getD ends x 0 + 16) × (getD ends (x + 1) 0 ≤ m)
+  pub lists : (x : ℕ) → x < k → Lists slots levels x (slotCount slots) net (getD ends x 0) (getD ends (x + 1) 0)

@@ -1,13 +1,16 @@
 // The link claims as a network of constraints between individuals: of each ordered pair, what the quantified terms ask of the two rows.
 ghost use mathlib.Core.Path.{_≡_};
+ghost use mathlib.Core.List.{List};
 ghost use Prim.Native.Nat.{ℕ, _+_, _*_, _<_, _≤_};
 ghost use lib.ListN.{length, getD};
 ghost use Rattle.chain.specs.Decisions.{Tells};
-ghost use Rattle.sections.specs.Terms.{termCount, TermsRight};
-ghost use Rattle.sections.specs.Claims.{claimCount, LinksRight};
-ghost use Rattle.network.specs.Levels.{levelAt, ClaimsRanged, LevelsOf};
+ghost use Rattle.sections.specs.Claims.{claimCount};
+ghost use Rattle.slots.specs.Slots.{slotCount, slotRole};
+ghost use Rattle.network.specs.Levels.{ClaimsRanged, LevelsOf};
 ghost use Rattle.network.specs.Constraints.{constraintCount, constraintAt, Met, AllMet, AllRight};
-ghost use Rattle.network.specs.Network.{between as betweenOf, Laid, LevelsMet, TermMet, NetworkOf, Added, Connected};
+ghost use Rattle.network.specs.Network.{between as betweenOf, Laid, NetworkOf, SlotAdded, Added, Connected};
+use gradings::Logic;
+use gradings::permits;
 use sections::wide;
 
 // What a quantified term of this kind, 4 "some" or 5 "all", asks through a link of this level.
@@ -51,87 +54,63 @@ fn note_claims(links: &[u8], levels: &mut [u8])
 
 // ---- the constraints of each pair
 
-// Adds as number `m` what term `i` asks through the strongest link claimed of pair `x`. The number of constraints.
-fn put_term(
-    terms: &[u8],
-    steps: u8,
-    levels: &[u8],
-    x: usize,
-    i: usize,
-    net: &mut [u8],
-    m: usize,
-) -> usize
-    requires { ⌜ TermsRight (now terms) ⌝ }
-    requires { ⌜ (i < termCount (now terms)) × (termCount (now terms) ≤ 64) × (x < 64) × (512 ≤ length (now levels)) × (4 * m + 4 ≤ length (now net)) ⌝ }
-    requires { ⌜ ((r : ℕ) → r < 8 → levelAt (now levels) r x ≤ steps) ⌝ }
-    ensures { λ r. ⌜ Added steps (termCount (now (terms .entry))) (TermMet steps (now (terms .entry)) (now (levels .entry)) x i)
-        (now (net .entry)) m (now (net .exit)) r ⌝ }
-    ensures { λ r. ⌜ r ≤ m + 1 ⌝ }
+// Adds as number `m` what slot `j` asks through the strongest link claimed of its role and pair `x`. The number of constraints.
+fn put_slot(slots: &[u8], levels: &[u8], x: usize, j: usize, net: &mut [u8], m: usize) -> usize
+    requires { ⌜ (j < slotCount (now slots)) × (slotRole (now slots) j < 8) × (x < 64) × (512 ≤ length (now levels)) × (4 * m + 4 ≤ length (now net)) ⌝ }
+    ensures { λ r. ⌜ SlotAdded (now (slots .entry)) (now (levels .entry)) x j (now (net .entry)) m (now (net .exit)) r ⌝ }
 {
-    let kind = terms[3 * i];
-    if kind < 4 {
-        return m;
-    }
-    if 5 < kind {
-        return m;
-    }
-    let role = wide(terms[3 * i + 1]);
+    let role = wide(slots[4 * j + 1]);
     let level = levels[64 * role + x];
     if level == 0 {
         return m;
     }
-    net[4 * m] = kind;
+    net[4 * m] = slots[4 * j];
     net[4 * m + 1] = level;
-    net[4 * m + 2] = i as u8;
-    net[4 * m + 3] = terms[3 * i + 2];
+    net[4 * m + 2] = slots[4 * j + 3];
+    net[4 * m + 3] = slots[4 * j + 2];
     m + 1
 }
 
-// Adds what all terms ask of pair `x`, as numbers from `start` on.
-fn put_pair(terms: &[u8], steps: u8, levels: &[u8], x: usize, net: &mut [u8], start: usize) -> usize
-    requires { ⌜ TermsRight (now terms) ⌝ }
-    requires { ⌜ (termCount (now terms) ≤ 64) × (x < 64) × (512 ≤ length (now levels)) × (4 * start + 256 ≤ length (now net)) ⌝ }
-    requires { ⌜ ((r : ℕ) → r < 8 → levelAt (now levels) r x ≤ steps) ⌝ }
-    ensures { λ r. ⌜ Added steps (termCount (now (terms .entry))) (LevelsMet steps (now (terms .entry)) (now (levels .entry)) x)
-        (now (net .entry)) start (now (net .exit)) r ⌝ }
-    ensures { λ r. ⌜ r ≤ start + 64 ⌝ }
+// Adds what all slots ask of pair `x`, as numbers from `start` on.
+fn put_pair(slots: &[u8], levels: &[u8], x: usize, net: &mut [u8], start: usize) -> usize
+    requires { ⌜ (slotCount (now slots) ≤ 16) × ((j : ℕ) → j < slotCount (now slots) → slotRole (now slots) j < 8) ⌝ }
+    requires { ⌜ (x < 64) × (512 ≤ length (now levels)) × (4 * start + 64 ≤ length (now net)) ⌝ }
+    ensures { λ r. ⌜ Added (now (slots .entry)) (now (levels .entry)) x (slotCount (now (slots .entry))) (now (net .entry)) start (now (net .exit)) r ⌝ }
 {
-    let count = terms.len() / 3;
+    let count = slots.len() / 4;
     let mut m = start;
-    let mut i = 0;
-    while i < count {
-        m = put_term(terms, steps, levels, x, i, net, m);
-        i += 1;
+    let mut j = 0;
+    while j < count {
+        m = put_slot(slots, levels, x, j, net, m);
+        j += 1;
     }
     m
 }
 
 // Makes the lists of all pairs.
-fn connect_by(terms: &[u8], steps: u8, levels: &[u8], net: &mut [u8], ends: &mut [u16])
-    requires { ⌜ TermsRight (now terms) ⌝ }
-    requires { ⌜ (termCount (now terms) ≤ 64) × (512 ≤ length (now levels)) × (16384 ≤ length (now net)) × (65 ≤ length (now ends)) × (getD (now ends) 0 0 ≡ 0) ⌝ }
-    requires { ⌜ ((r x : ℕ) → r < 8 → x < 64 → levelAt (now levels) r x ≤ steps) ⌝ }
-    ensures { λ _. ⌜ ((m : ℕ) × Connected steps (now (terms .entry)) (now (levels .entry)) 64 m (now (net .exit)) (now (ends .exit))) ⌝ }
+fn connect_by(slots: &[u8], levels: &[u8], net: &mut [u8], ends: &mut [u16])
+    requires { ⌜ (slotCount (now slots) ≤ 16) × ((j : ℕ) → j < slotCount (now slots) → slotRole (now slots) j < 8) ⌝ }
+    requires { ⌜ (512 ≤ length (now levels)) × (4096 ≤ length (now net)) × (65 ≤ length (now ends)) × (getD (now ends) 0 0 ≡ 0) ⌝ }
+    ensures { λ _. ⌜ ((m : ℕ) × Connected (now (slots .entry)) (now (levels .entry)) 64 m (now (net .exit)) (now (ends .exit))) ⌝ }
 {
     let mut m = 0;
     let mut x = 0;
     while x < 64 {
-        m = put_pair(terms, steps, levels, x, net, m);
+        m = put_pair(slots, levels, x, net, m);
         ends[x + 1] = m as u16;
         x += 1;
     }
 }
 
 // Makes the network of the link claims.
-pub fn connect(terms: &[u8], steps: u8, links: &[u8], net: &mut [u8], ends: &mut [u16])
-    requires { ⌜ TermsRight (now terms) ⌝ }
-    requires { ⌜ LinksRight (now links) steps ⌝ }
-    requires { ⌜ (termCount (now terms) ≤ 64) × (16384 ≤ length (now net)) × (65 ≤ length (now ends)) × (getD (now ends) 0 0 ≡ 0) ⌝ }
-    ensures { λ _. ⌜ NetworkOf steps (now (terms .entry)) (now (links .entry)) (now (net .exit)) (now (ends .exit)) ⌝ }
+pub fn connect(slots: &[u8], links: &[u8], net: &mut [u8], ends: &mut [u16])
+    requires { ⌜ (slotCount (now slots) ≤ 16) × ((j : ℕ) → j < slotCount (now slots) → slotRole (now slots) j < 8) ⌝ }
+    requires { ⌜ ClaimsRanged (now links) × (4096 ≤ length (now net)) × (65 ≤ length (now ends)) × (getD (now ends) 0 0 ≡ 0) ⌝ }
+    ensures { λ _. ⌜ ((levels : List ℕ) × NetworkOf (now (slots .entry)) (now (links .entry)) levels (now (net .exit)) (now (ends .exit))) ⌝ }
 {
     let mut levels = [0u8; 512];
     note_claims(links, &mut levels);
-    connect_by(terms, steps, &levels, net, ends);
+    connect_by(slots, &levels, net, ends);
 }
 
 // ---- constraints that are met
@@ -160,30 +139,24 @@ pub fn constraint_at(s: &[u8], y: usize) -> Constraint
 }
 
 // Is the constraint met by the row of the link's source and the row of its target?
-fn met(steps: u8, k: Constraint, source: &[u8], target: &[u8]) -> bool
-    requires { ⌜ (k .level ≤ steps) × (k .own < length (now source)) × (k .child < length (now target)) ⌝ }
-    ensures { λ r. ⌜ Tells r (Met steps k (now (source .entry)) (now (target .entry))) ⌝ }
+fn met(logic: Logic, k: Constraint, source: &[u8], target: &[u8]) -> bool
+    requires { ⌜ (4 ≤ k .kind) × (k .kind ≤ 5) × (k .level ≤ logic .steps) × (k .own < length (now source)) × (k .child < length (now target)) ⌝ }
+    ensures { λ r. ⌜ Tells r (Met logic k (now (source .entry)) (now (target .entry))) ⌝ }
 {
     let own = source[wide(k.own)];
     let child = target[wide(k.child)];
-    if k.kind == 4 {
-        return grades::some_allows(k.level, own, child);
-    }
-    if k.kind == 5 {
-        return grades::all_allows(steps, k.level, own, child);
-    }
-    true
+    permits(logic, k.kind, k.level, child, own)
 }
 
 // Is every constraint of the list met? The first that is not decides.
-pub fn all_met(steps: u8, s: &[u8], source: &[u8], target: &[u8], terms: usize) -> bool
-    requires { ⌜ AllRight steps terms (now s) × (terms ≤ length (now source)) × (terms ≤ length (now target)) ⌝ }
-    ensures { λ r. ⌜ Tells r (AllMet steps (now (s .entry)) (now (source .entry)) (now (target .entry))) ⌝ }
+pub fn all_met(logic: Logic, s: &[u8], source: &[u8], target: &[u8], terms: usize) -> bool
+    requires { ⌜ AllRight logic terms (now s) × (terms ≤ length (now source)) × (terms ≤ length (now target)) ⌝ }
+    ensures { λ r. ⌜ Tells r (AllMet logic (now (s .entry)) (now (source .entry)) (now (target .entry))) ⌝ }
 {
     let count = s.len() / 4;
     let mut y = 0;
     while y < count {
-        if !met(steps, constraint_at(s, y), source, target) {
+        if !met(logic, constraint_at(s, y), source, target) {
             return false;
         }
         y += 1;

@@ -1,7 +1,8 @@
 -- Laws of seating: what one individual more comes to, and the turns of the loop over candidates.
 -- Assumes nothing.
-use mathlib.Core.Path.{_≡_, refl, sym, ap, subst, _∙_}
-use mathlib.Core.Logic.{dite}
+use mathlib.Core.Path.{_≡_, refl, sym, ap, _∙_}
+use mathlib.Core.Bool.{true}
+use mathlib.Core.Logic.{dite, _↔_}
 use mathlib.Core.Option.{Option, none, some}
 use mathlib.Core.List.{List, [], _∷_, _++_, append-assoc, append-nil}
 use Prim.Native.Nat.{ℕ, suc, _+_, _-_, _≤_, _<_}
@@ -9,162 +10,180 @@ use native.Mathlib.Numerals.{add-one}
 use native.Mathlib.Nat.{sub-zero}
 use native.Mathlib.Decide.{ℕ-discrete, decLt}
 use native.Mathlib.Omega.{arith}
-use lib.ListN.{length, getD, take, drop, set}
+use lib.ListN.{length, getD, take, drop, set, length-set}
 use lib.Seq.{take-suc-set, take-set-le, take-take, drop-cons, getD-take, getD-set-same, getD-set-other, length-take-le}
-use Rattle.grades.specs.Rows.{rowAt}
-use Rattle.placement.specs.Outcome.{seat}
-use Rattle.domains.specs.Tables.{Allowed}
-use Rattle.domains.specs.Consistent.{Fits}
+use Rattle.gradings.specs.declared.Logic.{Logic}
 use Rattle.placer.specs.Walk.{walk}
-use Rattle.placer.specs.Seats.{May, may?, walkOf, SeatedBelow, FitsNext, NextFit}
-use Rattle.placer.proofs.Walk.{rest, rest-start, rest-end, rest-skip, rest-back, rest-found}
+use Rattle.placer.specs.Seats.{May, may?, walkOf, SeatedBelow, FitsNext, NextFit, Finds}
+use Rattle.placer.proofs.Walk.{placed-true, rest, rest-start, rest-end, rest-skip, rest-back, rest-found}
 
 -- ---- those seated
 
-pub seated-same : (v u : List ℕ) (k : ℕ) → take k u ≡ take k v → SeatedBelow v k → SeatedBelow u k
-seated-same v u k e h i l =
-    subst (λ (c : ℕ). c < 16384) (sym (getD-take k v i 0 l) ∙ ap (λ (p : List ℕ). getD p i 0) (sym e) ∙ getD-take k u i 0 l) (h i l)
+seated-same : (v u : List ℕ) (k : ℕ) → take k u ≡ take k v → SeatedBelow v k → SeatedBelow u k
+seated-same v u k e h i l = rw (← getD-take k u i 0 l, e, getD-take k v i 0 l) (h i l)
 
 -- the next one sits at c
 pub seated-next : (v : List ℕ) (k c : ℕ) → k < length v → c < 16384 → SeatedBelow v k → SeatedBelow (set v k c) (k + 1)
 seated-next v k c in-seats small h i l = dite (ℕ-discrete i k)
-    (λ e. subst (λ (x : ℕ). x < 16384) (sym (ap (λ (x : ℕ). getD (set v k c) x 0) e ∙ getD-set-same v k c 0 in-seats)) small)
-    (λ n. subst (λ (x : ℕ). x < 16384) (sym (getD-set-other v k i c 0 n)) (h i (omega (arith, n))))
+    (λ e. rw (e, getD-set-same v k c 0 in-seats) small)
+    (λ n. rw (getD-set-other v k i c 0 n) (h i (omega (arith, n))))
 
--- the first k of the seats stay where one after them is set and the first k + 1 stay
-pub seats-kept : (seats u : List ℕ) (k c : ℕ) → take (k + 1) u ≡ take (k + 1) (set seats k c) → take k u ≡ take k seats
-seats-kept seats u k c e =
-    sym (take-take k (k + 1) u (omega arith)) ∙ ap (take k) e ∙ take-take k (k + 1) (set seats k c) (omega arith) ∙ take-set-le k seats k c (omega arith)
+-- what may come after the first k of the seats, as code has it
+pub may-fits : (lg : Logic) (net ends rows table seats : List ℕ) (k : ℕ) → k ≤ length seats → (c : ℕ)
+    → May lg net ends rows table (take k seats) c ↔ FitsNext lg net ends rows table seats k c
+may-fits lg net ends rows table seats k h c = (
+  λ m. let f : FitsNext lg net ends rows table (take k seats) k c = rw (length-take-le k seats h) at m in
+      (f .0, λ i l. rw (← getD-take k seats i 0 l) (f .1 i l)),
+  λ f. rw (length-take-le k seats h) (f .0, λ i l. rw (getD-take k seats i 0 l) (f .1 i l)),
+)
 
--- ---- one turn of the loop over candidates: individual k next, of n, after those seated by q, which are the first k of the seats
+-- ---- one turn of the loop over candidates
 
--- the rest of the search, from the candidate c on
-abbrev pub restOf : (N : ℕ) (net ends rows table : List ℕ) (count n k : ℕ) (q : List ℕ) (c : ℕ) → Option (List ℕ)
-restOf N net ends rows table count n k q c = rest (May N net ends rows table) (may? N net ends rows table) count (n - (k + 1)) q c
+-- the rest of the search for individual k and those after it, from the candidate c on
+abbrev restOf : (lg : Logic) (net ends rows table : List ℕ) (count n k : ℕ) (q : List ℕ) (c : ℕ) → Option (List ℕ)
+restOf lg net ends rows table count n k q c = rest (May lg net ends rows table) (may? lg net ends rows table) count (n - (k + 1)) q c
 
-module _ (N : ℕ) (net ends rows table : List ℕ) (count n k : ℕ) (q : List ℕ) where
-  pub no-one-left : (p : List ℕ) → k ≡ n → some (take (n - k) p) ≡ walkOf N net ends rows table count (n - k) q
+-- individual k is next, of n, after those seated by q, which are the first k of the seats; and of the search what is left is the rest from the
+-- candidate c on
+pub record Turn (lg : Logic) (net ends rows table : List ℕ) (count n k : ℕ) (q seats : List ℕ) (c : ℕ) : Type 0 where
+  pub some-left : k < n
+  pub room : n ≤ length seats
+  pub seated : SeatedBelow seats k
+  pub same : take k seats ≡ q
+  pub left : walkOf lg net ends rows table count (n - k) q ≡ restOf lg net ends rows table count n k q c
+
+module _ (lg : Logic) (net ends rows table : List ℕ) (count n k : ℕ) (seats : List ℕ) where
+  pub no-one-left : (p : List ℕ) → k ≡ n → some (take (n - k) p) ≡ walkOf lg net ends rows table count (n - k) (take k seats)
   unfolding walkOf walk
   no-one-left p e = let z : n - k ≡ 0 = omega arith in rw z refl
 
-  pub loop-start : k < n → walkOf N net ends rows table count (n - k) q ≡ restOf N net ends rows table count n k q 0
+  pub first-turn : k < n → n ≤ length seats → SeatedBelow seats k → Turn lg net ends rows table count n k (take k seats) seats 0
   unfolding walkOf
-  loop-start h = rest-start (May N net ends rows table) (may? N net ends rows table) count (n - (k + 1)) q (n - k) (omega arith)
+  first-turn h l s = record {
+    some-left = h;
+    room = l;
+    seated = s;
+    same = refl;
+    left = rest-start (May lg net ends rows table) (may? lg net ends rows table) count (n - (k + 1)) (take k seats) (n - k) (omega arith);
+  }
 
-  module _ (W : Option (List ℕ)) (c : ℕ) (w : W ≡ restOf N net ends rows table count n k q c) where
-    pub loop-end : count ≤ c → none ≡ W
-    loop-end h = sym (w ∙ rest-end (May N net ends rows table) (may? N net ends rows table) count (n - (k + 1)) q c h)
+module _ {lg : Logic} {net ends rows table : List ℕ} {count n k : ℕ} {q seats : List ℕ} {c : ℕ} (t : Turn lg net ends rows table count n k q seats c) where
+  -- the whole search, and what is left of it from a candidate on
+  abbrev W : Option (List ℕ)
+  W = walkOf lg net ends rows table count (n - k) q
 
-    module _ (seats : List ℕ) (in-seats : k < length seats) (same : take k seats ≡ q) where
-      len : length q ≡ k
-      len = ap length (sym same) ∙ length-take-le k seats (omega arith)
+  abbrev R : ℕ → Option (List ℕ)
+  R = restOf lg net ends rows table count n k q
 
-      sits : (i : ℕ) → i < k → seat seats i ≡ seat q i
-      sits i l = sym (getD-take k seats i 0 l) ∙ ap (λ (p : List ℕ). seat p i) same
+  past : (a : ℕ) → count ≤ a → R a ≡ none
+  past = rest-end (May lg net ends rows table) (may? lg net ends rows table) count (n - (k + 1)) q
 
-      -- by the seats as code has them
-      may-fits : (e : ℕ) → May N net ends rows table q e → FitsNext N net ends rows table seats k e
-      may-fits e m = (
-        subst (λ (j : ℕ). Allowed table j e) len (m .allowed),
-        λ i l. subst (λ (x : ℕ). Fits N net ends i k (rowAt rows x) (rowAt rows e)) (sym (sits i l))
-            (subst (λ (j : ℕ). Fits N net ends i j (rowAt rows (seat q i)) (rowAt rows e)) len (m .fits i (rw len l))),
-      )
+  pub no-turn : count ≤ c → none ≡ W
+  no-turn h = sym (t .left ∙ past c h)
 
-      fits-may : (e : ℕ) → FitsNext N net ends rows table seats k e → May N net ends rows table q e
-      fits-may e f = record {
-        allowed = subst (λ (j : ℕ). Allowed table j e) (sym len) (f .0);
-        fits = λ i l. let z : i < k = omega (arith, len) in
-            subst (λ (j : ℕ). Fits N net ends i j (rowAt rows (seat q i)) (rowAt rows e)) (sym len)
-            (subst (λ (x : ℕ). Fits N net ends i k (rowAt rows x) (rowAt rows e)) (sits i z) (f .1 i z));
-      }
+  may : (e : ℕ) → May lg net ends rows table q e ↔ FitsNext lg net ends rows table seats k e
+  may e = rw (← t .same) (may-fits lg net ends rows table seats k (omega (arith, t .some-left, t .room)) e)
 
-      -- r is the next that fits: those before it are passed over
-      module _ (r : ℕ) (next : NextFit N net ends rows table count seats k c r) where
-        pub turn-next : W ≡ restOf N net ends rows table count n k q r
-        turn-next =
-            w ∙ skip (decLt r count)
+  -- r is the next that fits: those before it are passed over
+  module _ {r : ℕ} (next : NextFit lg net ends rows table count seats k c r) where
+    over : (d : ℕ) → d ≤ r → d ≤ count → c ≤ d → R c ≡ R d
+    over d h g l =
+        let z : c + (d - c) ≡ d = omega arith in
+        rest-skip (May lg net ends rows table) (may? lg net ends rows table) count (n - (k + 1)) q c (d - c)
+        (λ e a b m. next .none e a (omega arith) (omega arith) (may e .0 m))
+        ∙ ap R z
+
+    turn-next : W ≡ R r
+    turn-next =
+        t .left ∙ dite (decLt r count) (λ h. over r (omega arith) (omega arith) (next .from-start))
+        (λ h. dite (decLt c count) (λ l. over count (omega arith) (omega arith) (omega arith) ∙ past count (omega arith)) (λ l. past c (omega arith))
+        ∙ sym (past r (omega arith)))
+
+    pub turn-none : count ≤ r → none ≡ W
+    turn-none h = sym (turn-next ∙ past r h)
+
+    module _ (h : r < count) where
+      -- the search behind it
+      abbrev behind : Option (List ℕ)
+      behind = walkOf lg net ends rows table count (n - (k + 1)) (take (k + 1) (set seats k r))
+
+      begins : take (k + 1) (set seats k r) ≡ q ++ r ∷ []
+      begins = rw (add-one k, take-suc-set seats k r (omega (arith, t .some-left, t .room)), t .same) refl
+
+      turn-some : (p : List ℕ) → behind ≡ some p → W ≡ some (r ∷ p)
+      unfolding walkOf
+      turn-some p e =
+          turn-next
+          ∙ rest-found (May lg net ends rows table) (may? lg net ends rows table) count (n - (k + 1)) q r h (may r .1 (next .fits h)) p (rw (← begins) e)
+
+      -- u are the seats after it: they are found, or the loop goes on
+      module _ (u : List ℕ) (long : length u ≡ length seats) (first : take (k + 1) u ≡ take (k + 1) (set seats k r)) where
+        pub record Turned : Type 0 where
+          pub kept : take k u ≡ q
+          pub found : some (take (n - (k + 1)) (drop (k + 1) u)) ≡ behind → some (take (n - k) (drop k u)) ≡ W
+          pub back : none ≡ behind → Turn lg net ends rows table count n k q u (r + 1)
+
+        pub turned : Turned
+        unfolding walkOf
+        turned = record {
+          kept = kept ∙ t .same;
+          found = λ e. rw part (sym (turn-some (take (n - (k + 1)) (drop (k + 1) u)) (sym e)));
+          back = λ e. record {
+            some-left = t .some-left;
+            room = omega (arith, t .room);
+            seated = seated-same seats u k kept (t .seated);
+            same = kept ∙ t .same;
+            left = turn-next
+                ∙ rest-back (May lg net ends rows table) (may? lg net ends rows table) count (n - (k + 1)) q r h (may r .1 (next .fits h)) (rw (← begins) (sym e));
+          };
+        }
           where
-            over : (d : ℕ) → d ≤ r → d ≤ count → c ≤ d → restOf N net ends rows table count n k q c ≡ restOf N net ends rows table count n k q d
-            over d h g l =
-                let z : c + (d - c) ≡ d = omega arith in
-                rest-skip (May N net ends rows table) (may? N net ends rows table) count (n - (k + 1)) q c (d - c)
-                (λ e a b m. next .none e a (omega arith) (omega arith) (may-fits e m))
-                ∙ ap (restOf N net ends rows table count n k q) z
+            kept : take k u ≡ take k seats
+            kept =
+                rw (← take-take k (k + 1) u (omega arith), first, take-take k (k + 1) (set seats k r) (omega arith), take-set-le k seats k r (omega arith)) refl
 
-            past : (a : ℕ) → count ≤ a → restOf N net ends rows table count n k q a ≡ none
-            past a h = rest-end (May N net ends rows table) (may? N net ends rows table) count (n - (k + 1)) q a h
+            here : getD u k 0 ≡ r
+            here =
+                rw (← getD-take (k + 1) u k 0 (omega arith), first, getD-take (k + 1) (set seats k r) k 0 (omega arith))
+                (getD-set-same seats k r 0 (omega (arith, t .some-left, t .room)))
 
-            skip : Dec (r < count) → restOf N net ends rows table count n k q c ≡ restOf N net ends rows table count n k q r
-            skip (yes h) = over r (omega arith) (omega arith) (next .from-start)
-            skip (no h) = past-all (decLt c count)
-              where
-                past-all : Dec (c < count) → restOf N net ends rows table count n k q c ≡ restOf N net ends rows table count n k q r
-                past-all (yes l) = over count (omega arith) (omega arith) (omega arith) ∙ past count (omega arith) ∙ sym (past r (omega arith))
-                past-all (no l) = past c (omega arith) ∙ sym (past r (omega arith))
+            part : take (n - k) (drop k u) ≡ r ∷ take (n - (k + 1)) (drop (k + 1) u)
+            part =
+                let z : n - k ≡ suc (n - (k + 1)) = omega (arith, t .some-left) in
+                rw (z, drop-cons u k 0 (omega (arith, t .some-left, t .room)), here, add-one k) refl
 
-        pub turn-none : count ≤ r → none ≡ W
-        turn-none h = sym (turn-next ∙ rest-end (May N net ends rows table) (may? N net ends rows table) count (n - (k + 1)) q r h)
+-- ---- all at once
 
-        module _ (h : r < count) where
-          begins : take (k + 1) (set seats k r) ≡ q ++ r ∷ []
-          begins = rw add-one (take-suc-set seats k r in-seats) ∙ ap (λ (l : List ℕ). l ++ r ∷ []) same
+-- the first k of n individuals are seated, and what is found behind them is found behind none
+pub record AtOnce (lg : Logic) (net ends rows table : List ℕ) (count n k : ℕ) (seats : List ℕ) : Type 0 where
+  pub few : k ≤ n
+  pub room : n ≤ length seats
+  pub seated : SeatedBelow seats k
+  pub onward : (p : List ℕ) → walkOf lg net ends rows table count (n - k) (take k seats) ≡ some p
+      → walkOf lg net ends rows table count n [] ≡ some (take k seats ++ p)
 
-          may : May N net ends rows table q r
-          may = fits-may r (next .fits h)
+pub at-once-none : (lg : Logic) (net ends rows table : List ℕ) (count n : ℕ) (seats : List ℕ) → n ≤ length seats → AtOnce lg net ends rows table count n 0 seats
+at-once-none lg net ends rows table count n seats l = record {
+  few = omega arith;
+  room = l;
+  seated = λ i h. absurd (omega arith);
+  onward = λ p e. rw (sub-zero n) at e;
+}
 
-          pub turn-back : none ≡ walkOf N net ends rows table count (n - (k + 1)) (take (k + 1) (set seats k r))
-              → W ≡ restOf N net ends rows table count n k q (r + 1)
-          unfolding walkOf
-          turn-back e =
-              turn-next ∙ rest-back (May N net ends rows table) (may? N net ends rows table) count (n - (k + 1)) q r h may (rw (← begins) (sym e))
+module _ {lg : Logic} {net ends rows table : List ℕ} {count n k : ℕ} {seats : List ℕ} (a : AtOnce lg net ends rows table count n k seats) where
+  pub at-once-next : {r : ℕ} → NextFit lg net ends rows table count seats k 0 r → k < n → r < count → count ≤ 16384
+      → AtOnce lg net ends rows table count n (k + 1) (set seats k r)
+  at-once-next {r} next l h few = record {
+    few = omega arith;
+    room = omega (arith, a .room, length-set seats k r);
+    seated = seated-next seats k r (omega (arith, a .room)) (omega arith) (a .seated);
+    onward = λ p e. let t = first-turn lg net ends rows table count n k seats l (a .room) (a .seated) in
+        rw (begins t next h, append-assoc (take k seats) (r ∷ []) p) (a .onward (r ∷ p) (turn-some t next h p e));
+  }
 
-          -- what is found behind it
-          pub turn-some : (p : List ℕ) → walkOf N net ends rows table count (n - (k + 1)) (take (k + 1) (set seats k r)) ≡ some p → W ≡ some (r ∷ p)
-          unfolding walkOf
-          turn-some p e =
-              turn-next ∙ rest-found (May N net ends rows table) (may? N net ends rows table) count (n - (k + 1)) q r h may p (rw (← begins) e)
-
-          -- u are the seats then
-          pub turn-found : (u : List ℕ) → length u ≡ length seats → take (k + 1) u ≡ take (k + 1) (set seats k r) → k < n
-              → some (take (n - (k + 1)) (drop (k + 1) u)) ≡ walkOf N net ends rows table count (n - (k + 1)) (take (k + 1) (set seats k r))
-              → some (take (n - k) (drop k u)) ≡ W
-          turn-found u long first l e =
-              ap {B = Option (List ℕ)} some part ∙ sym (turn-some (take (n - (k + 1)) (drop (k + 1) u)) (sym e))
-            where
-              here : getD u k 0 ≡ r
-              here =
-                  sym (getD-take (k + 1) u k 0 (omega arith)) ∙ ap (λ (p : List ℕ). getD p k 0) first ∙ getD-take (k + 1) (set seats k r) k 0 (omega arith)
-                  ∙ getD-set-same seats k r 0 in-seats
-
-              part : take (n - k) (drop k u) ≡ r ∷ take (n - (k + 1)) (drop (k + 1) u)
-              part =
-                  let z : n - k ≡ suc (n - (k + 1)) = omega arith in
-                  rw (z, drop-cons u k 0 (omega arith), here, add-one k) refl
-
--- ---- all at once: what is found behind those seated is found behind none
-
-abbrev pub Onward : (N : ℕ) (net ends rows table : List ℕ) (count n k : ℕ) (seats : List ℕ) → Type 0
-Onward N net ends rows table count n k seats =
-    (p : List ℕ) → walkOf N net ends rows table count (n - k) (take k seats) ≡ some p → walkOf N net ends rows table count n [] ≡ some (take k seats ++ p)
-
-module _ (N : ℕ) (net ends rows table : List ℕ) (count n : ℕ) where
-  pub onward-start : (seats : List ℕ) → Onward N net ends rows table count n 0 seats
-  onward-start seats p e = ap (λ (k : ℕ). walkOf N net ends rows table count k []) (sym (sub-zero n)) ∙ e
-
-  pub onward-next : (k : ℕ) (seats : List ℕ) (r : ℕ) → k < n → k < length seats → r < count → NextFit N net ends rows table count seats k 0 r
-      → Onward N net ends rows table count n k seats → Onward N net ends rows table count n (k + 1) (set seats k r)
-  onward-next k seats r l in-seats h next onward p e =
-      onward (r ∷ p)
-      (turn-some N net ends rows table count n k (take k seats) (walkOf N net ends rows table count (n - k) (take k seats)) 0
-      (loop-start N net ends rows table count n k (take k seats) l) seats in-seats refl r next h p e)
-      ∙ ap {B = Option (List ℕ)} some (sym (append-assoc (take k seats) (r ∷ []) p) ∙ ap (λ (x : List ℕ). x ++ p) (sym begins))
-    where
-      begins : take (k + 1) (set seats k r) ≡ take k seats ++ r ∷ []
-      begins = rw add-one (take-suc-set seats k r in-seats)
-
-  pub onward-end : (k : ℕ) (seats : List ℕ) → k ≡ n → Onward N net ends rows table count n k seats → some (take n seats) ≡ walkOf N net ends rows table count n []
+  pub at-once-all : n ≤ k → Finds lg net ends rows table count n true seats
   unfolding walkOf walk
-  onward-end k seats e onward =
+  at-once-all h =
+      let e : k ≡ n = omega (arith, a .few) in
       let z : n - k ≡ 0 = omega arith in
-      sym (onward [] (ap (λ (m : ℕ). walkOf N net ends rows table count m (take k seats)) z)
-      ∙ ap {B = Option (List ℕ)} some (append-nil (take k seats) ∙ ap (λ (m : ℕ). take m seats) e))
+      placed-true true (take n seats) refl ∙ rw (append-nil (take k seats), e) at (sym (a .onward [] (rw z refl)))

@@ -1,4 +1,4 @@
 pub mod Walk
-pub mod Claims
 pub mod Rows
 pub mod Seats
+pub mod Placing

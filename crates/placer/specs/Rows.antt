@@ -2,14 +2,21 @@
 -- Assumes nothing.
 use mathlib.Core.List.{List}
 use Prim.Native.Nat.{ℕ}
-use Rattle.grades.specs.Rows.{HasGrades, rowAt, EachRow}
+use Rattle.semantics.specs.Interpretations.{Grading}
+use Rattle.sections.specs.Terms.{termsOf}
+use Rattle.gradings.specs.Gradings.{grading}
+use Rattle.gradings.specs.declared.Logic.{Logic}
+use Rattle.grades.specs.Rows.{HasGrades, EachRow}
 use Rattle.elimination.specs.Marks.{Marked}
-use Rattle.placer.specs.Claims.{gradingOf}
 
--- the row of candidate c is in its place
-abbrev pub RowIn : (N : ℕ) (ts rows : List ℕ) (c : ℕ) → Type 0
-RowIn N ts rows c = HasGrades (gradingOf N ts) c (rowAt rows c)
+-- the grading of a section of terms
+abbrev pub gradingOf : Logic → (terms : List ℕ) → Grading
+gradingOf l ts = grading l (termsOf ts)
 
--- so it is for each marked candidate below k
-abbrev pub Rowed : (N : ℕ) (ts marks : List ℕ) (k : ℕ) (rows : List ℕ) → Type 0
-Rowed N ts marks k rows = EachRow (λ c row. Marked marks c → HasGrades (gradingOf N ts) c row) k rows
+-- what the row of a candidate is, if it is marked
+abbrev pub RowFor : Logic → (ts marks : List ℕ) (c : ℕ) (row : List ℕ) → Type 0
+RowFor l ts marks c row = Marked marks c → HasGrades (gradingOf l ts) c row
+
+-- so it is for each candidate below k
+abbrev pub Rowed : Logic → (ts marks : List ℕ) (k : ℕ) (rows : List ℕ) → Type 0
+Rowed l ts marks = EachRow (RowFor l ts marks)

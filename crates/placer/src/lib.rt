@@ -1,37 +1,33 @@
 // Placing the individuals: the first placement in dictionary order at marked candidates that meets every claim.
 ghost use mathlib.Core.Path.{_≡_};
 ghost use mathlib.Core.Bool.{true};
-ghost use mathlib.Core.List.{[]};
 ghost use Prim.Native.Nat.{ℕ, _-_, _<_, _≤_};
 ghost use lib.ListN.{length, getD, take, drop};
 ghost use Rattle.chain.specs.Decisions.{Tells};
-ghost use Rattle.semantics.specs.Books.{individuals as individualsOf};
 ghost use Rattle.sections.specs.Terms.{termCount, TermsRight};
-ghost use Rattle.sections.specs.Claims.{MembershipsRight, LinksRight};
-ghost use Rattle.sections.specs.Books.{bookOfSections};
 ghost use Rattle.grades.specs.Rows.{rowAt};
-ghost use Rattle.elimination.specs.Marks.{marked};
-ghost use Rattle.placement.specs.Outcome.{placementAmong};
 ghost use Rattle.network.specs.Network.{Wired};
 ghost use Rattle.domains.specs.Consistent.{Fits, Problem, Graded};
 ghost use Rattle.placer.specs.Walk.{placed};
 ghost use Rattle.placer.specs.Rows.{Rowed};
-ghost use Rattle.placer.specs.Seats.{walkOf, Setting, SeatedBelow, NextFit};
+ghost use Rattle.placer.specs.Seats.{walkOf, Setting, SeatedBelow, NextFit, Finds};
+ghost use Rattle.placer.specs.Placing.{Task, Places};
 use domains::in_vain;
 use domains::leap;
 use domains::note_all_gaps;
 use grades::put_row;
 use grades::row_at;
+use gradings::Logic;
 use network::all_met;
 use network::between;
 
 // ---- the rows of the marked candidates, 64 bytes for each
 
 // The rows are worked out once: the search tries a candidate many times.
-fn fill_rows(terms: &[u8], steps: u8, marks: &[u8], count: usize, rows: &mut [u8])
+fn fill_rows(terms: &[u8], logic: Logic, marks: &[u8], count: usize, rows: &mut [u8])
     requires { ⌜ TermsRight (now terms) ⌝ }
     requires { ⌜ (termCount (now terms) ≤ 64) × (count ≤ 16384) × (count ≤ length (now marks)) × (1048576 ≤ length (now rows)) ⌝ }
-    ensures { λ _. ⌜ Rowed steps (now (terms .entry)) (now (marks .entry)) count (now (rows .exit)) ⌝ }
+    ensures { λ _. ⌜ Rowed logic (now (terms .entry)) (now (marks .entry)) count (now (rows .exit)) ⌝ }
 {
     let mut filled = 0;
     while filled < count {
@@ -40,7 +36,7 @@ fn fill_rows(terms: &[u8], steps: u8, marks: &[u8], count: usize, rows: &mut [u8
         if marks[c] != 1 {
             continue;
         }
-        put_row(terms, steps, c, rows, c);
+        put_row(terms, logic, c, rows, c);
     }
 }
 
@@ -48,7 +44,7 @@ fn fill_rows(terms: &[u8], steps: u8, marks: &[u8], count: usize, rows: &mut [u8
 
 // Is candidate `c` for individual `j` compatible with candidate `d` for individual `i`?
 fn compatible(
-    steps: u8,
+    logic: Logic,
     net: &[u8],
     ends: &[u16],
     terms: usize,
@@ -58,21 +54,21 @@ fn compatible(
     i: usize,
     d: usize,
 ) -> bool
-    requires { ⌜ Wired steps terms (now net) (now ends) ⌝ }
+    requires { ⌜ Wired logic terms (now net) (now ends) ⌝ }
     requires { ⌜ (1048576 ≤ length (now rows)) × (j < 8) × (i < 8) × (c < 16384) × (d < 16384) ⌝ }
-    ensures { λ r. ⌜ Tells r (Fits steps (now (net .entry)) (now (ends .entry)) j i (rowAt (now (rows .entry)) c) (rowAt (now (rows .entry)) d)) ⌝ }
+    ensures { λ r. ⌜ Tells r (Fits logic (now (net .entry)) (now (ends .entry)) j i (rowAt (now (rows .entry)) c) (rowAt (now (rows .entry)) d)) ⌝ }
 {
     let first = row_at(rows, c);
     let second = row_at(rows, d);
-    if !all_met(steps, between(net, ends, j, i), first, second, terms) {
+    if !all_met(logic, between(net, ends, j, i), first, second, terms) {
         return false;
     }
-    all_met(steps, between(net, ends, i, j), second, first, terms)
+    all_met(logic, between(net, ends, i, j), second, first, terms)
 }
 
 // Is candidate `c` for individual `k` compatible with those of the individuals before it?
 fn fits_seated(
-    steps: u8,
+    logic: Logic,
     net: &[u8],
     ends: &[u16],
     terms: usize,
@@ -81,15 +77,15 @@ fn fits_seated(
     k: usize,
     c: usize,
 ) -> bool
-    requires { ⌜ Wired steps terms (now net) (now ends) ⌝ }
+    requires { ⌜ Wired logic terms (now net) (now ends) ⌝ }
     requires { ⌜ (1048576 ≤ length (now rows)) × (k < 8) × (k ≤ length (now seats)) × (c < 16384) × SeatedBelow (now seats) k ⌝ }
     ensures { λ r. ⌜ Tells r ((i : ℕ) → i < k
-        → Fits steps (now (net .entry)) (now (ends .entry)) i k (rowAt (now (rows .entry)) (getD (now (seats .entry)) i 0)) (rowAt (now (rows .entry)) c)) ⌝ }
+        → Fits logic (now (net .entry)) (now (ends .entry)) i k (rowAt (now (rows .entry)) (getD (now (seats .entry)) i 0)) (rowAt (now (rows .entry)) c)) ⌝ }
 {
     let mut i = 0;
     while i < k {
         let d = seats[i] as usize;
-        if !compatible(steps, net, ends, terms, rows, i, d, k, c) {
+        if !compatible(logic, net, ends, terms, rows, i, d, k, c) {
             return false;
         }
         i += 1;
@@ -100,7 +96,7 @@ fn fits_seated(
 // The first candidate from `start` on that individual `k` may have and that is compatible with those of the individuals before it; or a number
 // that is not below `count`.
 fn next_fit(
-    steps: u8,
+    logic: Logic,
     net: &[u8],
     ends: &[u16],
     terms: usize,
@@ -112,9 +108,9 @@ fn next_fit(
     k: usize,
     start: usize,
 ) -> usize
-    requires { ⌜ Setting steps terms (now net) (now ends) count individuals (now table) (now rows) ⌝ }
+    requires { ⌜ Setting logic terms (now net) (now ends) count individuals (now table) (now rows) ⌝ }
     requires { ⌜ (k < individuals) × (k ≤ length (now seats)) × SeatedBelow (now seats) k ⌝ }
-    ensures { λ r. ⌜ NextFit steps (now (net .entry)) (now (ends .entry)) (now (rows .entry)) (now (table .entry)) count (now (seats .entry)) k start r ⌝ }
+    ensures { λ r. ⌜ NextFit logic (now (net .entry)) (now (ends .entry)) (now (rows .entry)) (now (table .entry)) count (now (seats .entry)) k start r ⌝ }
 {
     let mut c = start;
     while c < count {
@@ -123,7 +119,7 @@ fn next_fit(
             c += gap;
             continue;
         }
-        if fits_seated(steps, net, ends, terms, rows, seats, k, c) {
+        if fits_seated(logic, net, ends, terms, rows, seats, k, c) {
             return c;
         }
         c += 1;
@@ -133,7 +129,7 @@ fn next_fit(
 
 // Places the individuals from `k` on, those before them being seated: a plain search in the order of the candidates.
 fn place_from(
-    steps: u8,
+    logic: Logic,
     net: &[u8],
     ends: &[u16],
     terms: usize,
@@ -144,11 +140,11 @@ fn place_from(
     seats: &mut [u16],
     k: usize,
 ) -> bool
-    requires { ⌜ Setting steps terms (now net) (now ends) count individuals (now table) (now rows) ⌝ }
+    requires { ⌜ Setting logic terms (now net) (now ends) count individuals (now table) (now rows) ⌝ }
     requires { ⌜ (k ≤ individuals) × (individuals ≤ length (now seats)) × SeatedBelow (now seats) k ⌝ }
     ensures { λ r. ⌜ take k (now (seats .exit)) ≡ take k (now (seats .entry)) ⌝ }
     ensures { λ r. ⌜ placed r (take (individuals - k) (drop k (now (seats .exit))))
-        ≡ walkOf steps (now (net .entry)) (now (ends .entry)) (now (rows .entry)) (now (table .entry)) count (individuals - k) (take k (now (seats .entry))) ⌝ }
+        ≡ walkOf logic (now (net .entry)) (now (ends .entry)) (now (rows .entry)) (now (table .entry)) count (individuals - k) (take k (now (seats .entry))) ⌝ }
 {
     if k == individuals {
         return true;
@@ -156,7 +152,7 @@ fn place_from(
     let mut next = 0;
     while next < count {
         let c = next_fit(
-            steps,
+            logic,
             net,
             ends,
             terms,
@@ -174,7 +170,7 @@ fn place_from(
         next = c + 1;
         seats[k] = c as u16;
         if place_from(
-            steps,
+            logic,
             net,
             ends,
             terms,
@@ -193,7 +189,7 @@ fn place_from(
 
 // Places each individual at the first candidate that is compatible with those before it. If there is one for each, this is what the search finds.
 fn place_at_once(
-    steps: u8,
+    logic: Logic,
     net: &[u8],
     ends: &[u16],
     terms: usize,
@@ -203,15 +199,15 @@ fn place_at_once(
     rows: &[u8],
     seats: &mut [u16],
 ) -> bool
-    requires { ⌜ Setting steps terms (now net) (now ends) count individuals (now table) (now rows) ⌝ }
+    requires { ⌜ Setting logic terms (now net) (now ends) count individuals (now table) (now rows) ⌝ }
     requires { ⌜ individuals ≤ length (now seats) ⌝ }
     ensures { λ r. ⌜ (r ≡ true
-        → placed r (take individuals (now (seats .exit))) ≡ walkOf steps (now (net .entry)) (now (ends .entry)) (now (rows .entry)) (now (table .entry)) count individuals []) ⌝ }
+        → Finds logic (now (net .entry)) (now (ends .entry)) (now (rows .entry)) (now (table .entry)) count individuals true (now (seats .exit))) ⌝ }
 {
     let mut k = 0;
     while k < individuals {
         let c = next_fit(
-            steps,
+            logic,
             net,
             ends,
             terms,
@@ -236,7 +232,7 @@ fn place_at_once(
 
 // Makes the table arc consistent, and searches.
 fn place_pruned(
-    steps: u8,
+    logic: Logic,
     net: &[u8],
     ends: &[u16],
     terms: usize,
@@ -246,17 +242,16 @@ fn place_pruned(
     table: &mut [u8],
     seats: &mut [u16],
 ) -> bool
-    requires { ⌜ Setting steps terms (now net) (now ends) count individuals (now table) (now rows) ⌝ }
-    requires { ⌜ (individuals ≤ length (now seats)) × Graded steps terms count individuals (now rows) (now table) ⌝ }
-    ensures { λ r. ⌜ placed r (take individuals (now (seats .exit)))
-        ≡ walkOf steps (now (net .entry)) (now (ends .entry)) (now (rows .entry)) (now (table .entry)) count individuals [] ⌝ }
+    requires { ⌜ Setting logic terms (now net) (now ends) count individuals (now table) (now rows) ⌝ }
+    requires { ⌜ (individuals ≤ length (now seats)) × Graded logic terms count individuals (now rows) (now table) ⌝ }
+    ensures { λ r. ⌜ Finds logic (now (net .entry)) (now (ends .entry)) (now (rows .entry)) (now (table .entry)) count individuals r (now (seats .exit)) ⌝ }
 {
-    arcs::prune(steps, net, ends, terms, count, individuals, rows, table);
+    arcs::prune(logic, net, ends, terms, count, individuals, rows, table);
     if in_vain(table, count, individuals) {
         return false;
     }
     place_from(
-        steps,
+        logic,
         net,
         ends,
         terms,
@@ -271,7 +266,7 @@ fn place_pruned(
 
 // Thins the table to one candidate a class. Where the first ones do not go together at once, it is worth pruning.
 fn place_thinned(
-    steps: u8,
+    logic: Logic,
     net: &[u8],
     ends: &[u16],
     terms: usize,
@@ -281,15 +276,14 @@ fn place_thinned(
     table: &mut [u8],
     seats: &mut [u16],
 ) -> bool
-    requires { ⌜ Problem steps terms (now net) (now ends) count individuals (now rows) ⌝ }
-    requires { ⌜ (131072 ≤ length (now table)) × (individuals ≤ length (now seats)) × Graded steps terms count individuals (now rows) (now table) ⌝ }
-    ensures { λ r. ⌜ placed r (take individuals (now (seats .exit)))
-        ≡ walkOf steps (now (net .entry)) (now (ends .entry)) (now (rows .entry)) (now (table .entry)) count individuals [] ⌝ }
+    requires { ⌜ Problem logic terms (now net) (now ends) count individuals (now rows) ⌝ }
+    requires { ⌜ (131072 ≤ length (now table)) × (individuals ≤ length (now seats)) × Graded logic terms count individuals (now rows) (now table) ⌝ }
+    ensures { λ r. ⌜ Finds logic (now (net .entry)) (now (ends .entry)) (now (rows .entry)) (now (table .entry)) count individuals r (now (seats .exit)) ⌝ }
 {
-    classes::thin(steps, net, ends, terms, count, individuals, rows, table);
+    classes::thin(logic, net, ends, terms, count, individuals, rows, table);
     note_all_gaps(table, count, individuals);
     if place_at_once(
-        steps,
+        logic,
         net,
         ends,
         terms,
@@ -302,7 +296,7 @@ fn place_thinned(
         return true;
     }
     place_pruned(
-        steps,
+        logic,
         net,
         ends,
         terms,
@@ -316,8 +310,9 @@ fn place_thinned(
 
 // The same as `place`, with room that is lent.
 fn place_in(
+    logic: Logic,
     terms: &[u8],
-    steps: u8,
+    slots: &[u8],
     memberships: &[u8],
     links: &[u8],
     marks: &[u8],
@@ -329,22 +324,17 @@ fn place_in(
     table: &mut [u8],
     seats: &mut [u16],
 ) -> bool
-    requires { ⌜ TermsRight (now terms) ⌝ }
-    requires { ⌜ MembershipsRight (now memberships) steps (termCount (now terms)) ⌝ }
-    requires { ⌜ LinksRight (now links) steps ⌝ }
-    requires { ⌜ termCount (now terms) ≤ 64 ⌝ }
-    requires { ⌜ (count ≤ 16384) × (count ≤ length (now marks)) × (individuals ≡ individualsOf (bookOfSections steps (now terms) [] (now memberships) (now links)))
-        × (individuals ≤ length (now seats)) ⌝ }
-    requires { ⌜ (16384 ≤ length (now net)) × (65 ≤ length (now ends)) × (getD (now ends) 0 0 ≡ 0) × (1048576 ≤ length (now rows))
+    requires { ⌜ Task logic (now terms) (now slots) (now memberships) (now links) (now marks) count individuals ⌝ }
+    requires { ⌜ individuals ≤ length (now seats) ⌝ }
+    requires { ⌜ (4096 ≤ length (now net)) × (65 ≤ length (now ends)) × (getD (now ends) 0 0 ≡ 0) × (1048576 ≤ length (now rows))
         × (131072 ≤ length (now table)) × ((i : ℕ) → getD (now table) i 0 ≡ 0) ⌝ }
-    ensures { λ r. ⌜ placed r (take individuals (now (seats .exit)))
-        ≡ placementAmong (bookOfSections steps (now (terms .entry)) [] (now (memberships .entry)) (now (links .entry))) (marked (now (marks .entry)) count) ⌝ }
+    ensures { λ r. ⌜ Places logic (now (terms .entry)) (now (memberships .entry)) (now (links .entry)) (now (marks .entry)) count individuals r (now (seats .exit)) ⌝ }
 {
-    network::connect(terms, steps, links, net, ends);
-    fill_rows(terms, steps, marks, count, rows);
+    network::connect(slots, links, net, ends);
+    fill_rows(terms, logic, marks, count, rows);
     let k = terms.len() / 3;
     filter::fill_table(
-        steps,
+        logic,
         memberships,
         net,
         ends,
@@ -358,14 +348,15 @@ fn place_in(
     if in_vain(table, count, individuals) {
         return false;
     }
-    place_thinned(steps, net, ends, k, count, individuals, rows, table, seats)
+    place_thinned(logic, net, ends, k, count, individuals, rows, table, seats)
 }
 
 // The first placement of the individuals at marked candidates that meets every claim. Where there is none the answer is false, and what the
 // seats hold means nothing.
 pub fn place(
+    logic: Logic,
     terms: &[u8],
-    steps: u8,
+    slots: &[u8],
     memberships: &[u8],
     links: &[u8],
     marks: &[u8],
@@ -373,22 +364,18 @@ pub fn place(
     individuals: usize,
     seats: &mut [u16],
 ) -> bool
-    requires { ⌜ TermsRight (now terms) ⌝ }
-    requires { ⌜ MembershipsRight (now memberships) steps (termCount (now terms)) ⌝ }
-    requires { ⌜ LinksRight (now links) steps ⌝ }
-    requires { ⌜ termCount (now terms) ≤ 64 ⌝ }
-    requires { ⌜ (count ≤ 16384) × (count ≤ length (now marks)) × (individuals ≡ individualsOf (bookOfSections steps (now terms) [] (now memberships) (now links)))
-        × (individuals ≤ length (now seats)) ⌝ }
-    ensures { λ r. ⌜ placed r (take individuals (now (seats .exit)))
-        ≡ placementAmong (bookOfSections steps (now (terms .entry)) [] (now (memberships .entry)) (now (links .entry))) (marked (now (marks .entry)) count) ⌝ }
+    requires { ⌜ Task logic (now terms) (now slots) (now memberships) (now links) (now marks) count individuals ⌝ }
+    requires { ⌜ individuals ≤ length (now seats) ⌝ }
+    ensures { λ r. ⌜ Places logic (now (terms .entry)) (now (memberships .entry)) (now (links .entry)) (now (marks .entry)) count individuals r (now (seats .exit)) ⌝ }
 {
-    let mut net = [0u8; 16384];
+    let mut net = [0u8; 4096];
     let mut ends = [0u16; 65];
     let mut rows = [0u8; 1048576];
     let mut table = [0u8; 131072];
     place_in(
+        logic,
         terms,
-        steps,
+        slots,
         memberships,
         links,
         marks,

@@ -10,8 +10,9 @@ use lib.ListN.{length, getD, take}
 use lib.Seq.{take-suc, take-at}
 use Rattle.chain.specs.Lists.{keep, from}
 use Rattle.chain.proofs.Lists.{flatMap-none, flatMap-more}
-use Rattle.semantics.specs.Interpretations.{graded}
-use Rattle.semantics.proofs.Interpretations.{graded-well-formed}
+use Rattle.gradings.specs.Gradings.{grading}
+use Rattle.gradings.specs.declared.Logic.{Logic}
+use Rattle.gradings.proofs.Gradings.{grading-well-formed}
 use Rattle.sections.specs.Terms.{termCount, termsOf, TermsRight}
 use Rattle.sections.proofs.Terms.{length-terms, terms-ordered}
 use Rattle.grades.specs.Rows.{rowOf}
@@ -62,19 +63,19 @@ module _ (f : ℕ → List ℕ) where
 
 -- ---- a candidate's row, at the front of what code filled
 
-module _ (N : ℕ) (s : List ℕ) (c : ℕ) where
+module _ (lg : Logic) (s : List ℕ) (c : ℕ) where
   abbrev row : List ℕ
-  row = rowOf (graded N (termsOf s)) c
+  row = rowOf (grading lg (termsOf s)) c
 
   pub row-length : length row ≡ termCount s
-  row-length = length-row (graded N (termsOf s)) c ∙ length-terms s
+  row-length = length-row (grading lg (termsOf s)) c ∙ length-terms s
 
   pub row-front : (xs ys : List ℕ) → xs ≡ row ++ ys → take (termCount s) xs ≡ row
   row-front xs ys e = ap (take (termCount s)) e ∙ take-at row ys (termCount s) row-length
 
   -- of one-digit grades, where the chain's are
-  pub row-digits : TermsRight s → N < 10 → (i : ℕ) → getD row i 0 < 10
-  row-digits h l i = omega (arith, row-le (graded N (termsOf s)) c (graded-well-formed N (termsOf s) (terms-ordered s h)) i)
+  pub row-digits : TermsRight s → lg .steps < 10 → (i : ℕ) → getD row i 0 < 10
+  row-digits h l i = omega (arith, row-le (grading lg (termsOf s)) c (grading-well-formed lg (termsOf s) (terms-ordered s h)) i)
 
 -- ---- the lines of types, candidate by candidate
 

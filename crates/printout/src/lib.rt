@@ -5,13 +5,14 @@ ghost use mathlib.Core.List.{List, [], _∷_, _++_, flatMap};
 ghost use Prim.Native.Nat.{ℕ, _+_, _*_, _<_, _≤_};
 ghost use lib.ListN.{length, getD};
 ghost use Rattle.chain.specs.Lists.{from, keep};
-ghost use Rattle.semantics.specs.Interpretations.{graded};
+ghost use Rattle.gradings.specs.Gradings.{grading};
 ghost use Rattle.sections.specs.Terms.{termCount, termsOf, TermsRight};
 ghost use Rattle.grades.specs.Rows.{rowOf};
 ghost use Rattle.book.specs.Layout.{wordAt};
 ghost use Rattle.elimination.specs.Marks.{marked?};
 ghost use Rattle.printout.specs.Text.{digitByte, decimal, Added};
 ghost use Rattle.printout.specs.Lines.{newline, refusedLine, outcomeLine, spaced, typeLine, typeLines, individualLine, individualLines};
+use gradings::Logic;
 
 // ---- text and numbers
 
@@ -132,29 +133,36 @@ fn put_type(out: &mut [u8], at: usize, c: usize, row: &[u8]) -> usize
 }
 
 // The line of candidate `c`.
-fn type_line(out: &mut [u8], at: usize, terms: &[u8], steps: u8, c: usize) -> usize
+fn type_line(out: &mut [u8], at: usize, terms: &[u8], logic: Logic, c: usize) -> usize
     requires { ⌜ TermsRight (now terms) ⌝ }
-    requires { ⌜ (termCount (now terms) ≤ 64) × (steps < 10) ⌝ }
+    requires { ⌜ (termCount (now terms) ≤ 64) × (logic .steps < 10) ⌝ }
     requires { ⌜ at + 192 ≤ length (now out) ⌝ }
-    ensures { λ r. ⌜ Added (now (out .entry)) at (typeLine c (rowOf (graded steps (termsOf (now (terms .entry)))) c)) (now (out .exit)) r ⌝ }
+    ensures { λ r. ⌜ Added (now (out .entry)) at (typeLine c (rowOf (grading logic (termsOf (now (terms .entry)))) c)) (now (out .exit)) r ⌝ }
     ensures { λ r. ⌜ r ≤ at + 192 ⌝ }
 {
     let count = terms.len() / 3;
     let mut row = [0u8; 64];
-    grades::fill_row(terms, steps, c, &mut row);
+    grades::fill_row(terms, logic, c, &mut row);
     put_type(out, at, c, &row[..count])
 }
 
 // The line of candidate `c` if it is marked.
-fn put_marked(out: &mut [u8], at: usize, terms: &[u8], steps: u8, marks: &[u8], c: usize) -> usize
+fn put_marked(
+    out: &mut [u8],
+    at: usize,
+    terms: &[u8],
+    logic: Logic,
+    marks: &[u8],
+    c: usize,
+) -> usize
     requires { ⌜ TermsRight (now terms) ⌝ }
-    requires { ⌜ (termCount (now terms) ≤ 64) × (steps < 10) ⌝ }
+    requires { ⌜ (termCount (now terms) ≤ 64) × (logic .steps < 10) ⌝ }
     requires { ⌜ (at + 192 ≤ length (now out)) × (c < length (now marks)) ⌝ }
-    ensures { λ r. ⌜ Added (now (out .entry)) at (ite {C = List ℕ} (marked? (now (marks .entry)) c) (typeLine c (rowOf (graded steps (termsOf (now (terms .entry)))) c)) []) (now (out .exit)) r ⌝ }
+    ensures { λ r. ⌜ Added (now (out .entry)) at (ite {C = List ℕ} (marked? (now (marks .entry)) c) (typeLine c (rowOf (grading logic (termsOf (now (terms .entry)))) c)) []) (now (out .exit)) r ⌝ }
     ensures { λ r. ⌜ r ≤ at + 192 ⌝ }
 {
     if marks[c] == 1 {
-        return type_line(out, at, terms, steps, c);
+        return type_line(out, at, terms, logic, c);
     }
     at
 }
@@ -163,21 +171,21 @@ fn put_marked(out: &mut [u8], at: usize, terms: &[u8], steps: u8, marks: &[u8], 
 pub fn type_lines(
     out: &mut [u8],
     terms: &[u8],
-    steps: u8,
+    logic: Logic,
     marks: &[u8],
     first: usize,
     count: usize,
 ) -> usize
     requires { ⌜ TermsRight (now terms) ⌝ }
-    requires { ⌜ (termCount (now terms) ≤ 64) × (steps < 10) ⌝ }
+    requires { ⌜ (termCount (now terms) ≤ 64) × (logic .steps < 10) ⌝ }
     requires { ⌜ (192 * count ≤ length (now out)) × (first + count ≤ length (now marks)) ⌝ }
-    ensures { λ r. ⌜ Added (now (out .entry)) 0 (typeLines (rowOf (graded steps (termsOf (now (terms .entry))))) (keep (marked? (now (marks .entry))) (from first count))) (now (out .exit)) r ⌝ }
+    ensures { λ r. ⌜ Added (now (out .entry)) 0 (typeLines (rowOf (grading logic (termsOf (now (terms .entry))))) (keep (marked? (now (marks .entry))) (from first count))) (now (out .exit)) r ⌝ }
     ensures { λ r. ⌜ r ≤ 192 * count ⌝ }
 {
     let mut end = 0;
     let mut i = 0;
     while i < count {
-        end = put_marked(out, end, terms, steps, marks, first + i);
+        end = put_marked(out, end, terms, logic, marks, first + i);
         i += 1;
     }
     end

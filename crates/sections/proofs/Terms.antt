@@ -2,6 +2,7 @@
 -- Assumes nothing.
 use mathlib.Core.Path.{_≡_, refl, sym, ap, subst, _∙_}
 use mathlib.Core.Bool.{Bool}
+use mathlib.Core.Logic.{_⊎_, ⊎-elim}
 use mathlib.Core.List.{List, [], _∷_, flatMap}
 use Prim.Native.Nat.{ℕ, zero, suc, _*_, _≤_, _<_}
 use native.Mathlib.Nat.{add-zero}
@@ -9,13 +10,15 @@ use native.Mathlib.Omega.{arith}
 use lib.ListN.{length}
 use Rattle.chain.specs.Decisions.{Tells}
 use Rattle.chain.specs.Lists.{highest, table}
+use Rattle.chain.specs.Connectives.{Quantifier, existential, universal}
 use Rattle.chain.proofs.Decisions.{tells-map}
 use Rattle.chain.proofs.Lists.{length-table, getD-table, highest-most}
 use Rattle.chain.proofs.Blocks.{blocks-whole}
 use Rattle.semantics.specs.Terms.{Term, name, not, and, or, some, all, top, bottom, term, Children, Ordered}
+use Rattle.semantics.specs.Quantified.{quantified}
 use Rattle.semantics.specs.Books.{nameAbove, roleAbove}
 use Rattle.semantics.specs.Candidates.{place, IsPlace, NamesApart}
-use Rattle.sections.specs.Terms.{termOf, kindByte, aByte, InRange, Described, kindAt, aAt, bAt, termCount, termAt, termsOf, TermsRight}
+use Rattle.sections.specs.Terms.{termOf, quantifierOf, kindByte, aByte, InRange, Described, kindAt, aAt, bAt, termCount, termAt, termsOf, TermsRight}
 
 kindByte-lt : (t : Term) → kindByte t < 8
 kindByte-lt (name a) = omega arith
@@ -179,3 +182,40 @@ module _ (s : List ℕ) where
         go i (all r c) h = omega (arith, h .0)
         go i top h = omega arith
         go i bottom h = omega arith
+
+-- ---- by the kind of a quantified term
+
+module _ (P : Quantifier → Type 0) (k : ℕ) where
+  pub by-some : k ≡ 4 → P existential → P (quantifierOf k)
+  by-some e = subst (λ (z : ℕ). P (quantifierOf z)) (sym e)
+
+  pub by-all : 4 ≤ k → k ≤ 5 → ¬ (k ≡ 4) → P universal → P (quantifierOf k)
+  by-all h g n = let e : k ≡ 5 = omega arith in subst (λ (z : ℕ). P (quantifierOf z)) (sym e)
+
+pub quantified-term : (s : List ℕ) (i : ℕ) → i < termCount s → 4 ≤ kindAt s i → kindAt s i ≤ 5
+    → term (termsOf s) i ≡ quantified (quantifierOf (kindAt s i)) (aAt s i) (bAt s i)
+quantified-term s i h l g =
+    term-at s i h
+    ∙ by-kind (λ k t. 4 ≤ k → k ≤ 5 → t ≡ quantified (quantifierOf k) (aAt s i) (bAt s i)) (aAt s i) (bAt s i)
+    (λ a b. absurd (omega arith)) (λ a b. absurd (omega arith)) (λ a b. absurd (omega arith)) (λ a b. absurd (omega arith)) (λ _ _. refl) (λ _ _. refl)
+    (λ a b. absurd (omega arith)) (λ a b. absurd (omega arith)) (λ k n a b. absurd (omega arith)) (kindAt s i) l g
+
+-- and a term of another kind is none
+pub other-term : (s : List ℕ) (i : ℕ) → i < termCount s → (kindAt s i < 4) ⊎ (5 < kindAt s i) → (q : Quantifier) (r x : ℕ)
+    → ¬ (term (termsOf s) i ≡ quantified q r x)
+other-term s i h n q r x e =
+    by-kind (λ k t. (k < 4) ⊎ (5 < k) → t ≡ quantified q r x → ⊥) (aAt s i) (bAt s i) (λ _ f. small 0 (ap kindByte f) (omega arith))
+    (λ _ f. small 1 (ap kindByte f) (omega arith)) (λ _ f. small 2 (ap kindByte f) (omega arith)) (λ _ f. small 3 (ap kindByte f) (omega arith))
+    (λ m _. ⊎-elim (λ l. omega arith) (λ l. omega arith) m) (λ m _. ⊎-elim (λ l. omega arith) (λ l. omega arith) m)
+    (λ _ f. large 6 (ap kindByte f) (omega arith)) (λ _ f. large 7 (ap kindByte f) (omega arith)) (λ k _ _ f. large 7 (ap kindByte f) (omega arith))
+    (kindAt s i) n (sym (term-at s i h) ∙ e)
+  where
+    kinds : (q : Quantifier) → (4 ≤ kindByte (quantified q r x)) × (kindByte (quantified q r x) ≤ 5)
+    kinds existential = (omega arith, omega arith)
+    kinds universal = (omega arith, omega arith)
+
+    small : (k : ℕ) → k ≡ kindByte (quantified q r x) → k < 4 → ⊥
+    small k f l = omega (arith, kinds q .0)
+
+    large : (k : ℕ) → k ≡ kindByte (quantified q r x) → 5 < k → ⊥
+    large k f l = omega (arith, kinds q .1)

@@ -8,11 +8,16 @@ use lib.ListN.{length, getD}
 use Rattle.chain.specs.Decisions.{dec-and, dec-not}
 use Rattle.chain.specs.Search.{all?}
 use Rattle.chain.specs.Lists.{table}
+use Rattle.chain.specs.Connectives.{Quantifier, existential, universal}
 use Rattle.semantics.specs.Terms.{Term, name, not, and, or, some, all, top, bottom}
 
 -- kinds 0 to 7, in the order of the table
 abbrev pub termOf : (kind a b : ℕ) → Term
 termOf kind a b = getD (name a ∷ not a ∷ and a b ∷ or a b ∷ some a b ∷ all a b ∷ top ∷ bottom ∷ []) kind bottom
+
+-- the quantifier of a quantified term, by its kind: 4 is "some", 5 is "all"
+abbrev pub quantifierOf : ℕ → Quantifier
+quantifierOf kind = getD (existential ∷ existential ∷ existential ∷ existential ∷ existential ∷ []) kind universal
 
 -- ---- a term's bytes, as the table has them
 

@@ -1,65 +1,126 @@
--- Laws of the link of two candidates: it is on the chain, it is allowed, and whatever is allowed is not above it. No other file looks
--- inside the definition.
+-- Laws of the link between two types: it is on the chain, it is allowed, and whatever is allowed is not above it; equal grades have equal
+-- links. No other file looks inside the definition.
 -- Assumes nothing.
-use mathlib.Core.Path.{_≡_, sym, subst}
-use mathlib.Core.Logic.{_↔_}
+use mathlib.Core.Path.{_≡_, refl, sym, subst}
+use mathlib.Core.Logic.{_↔_, Iff·trans}
 use Prim.Native.Nat.{ℕ, _≤_, _<_}
+use native.Mathlib.Nat.{le-antisymm}
 use native.Mathlib.Omega.{arith}
 use lib.ListN.{length}
+use Rattle.chain.specs.Search.{greatest}
 use Rattle.chain.specs.Connectives.{Quantifier, existential, universal, through, Within}
 use Rattle.chain.proofs.Search.{greatest-le, greatest-passes, greatest-most}
 use Rattle.chain.proofs.Connectives.{within-trans, neutral-within, through-mono, through-zero}
 use Rattle.semantics.specs.Terms.{term}
-use Rattle.semantics.specs.Quantified.{quantified}
+use Rattle.semantics.specs.Quantified.{quantified, EachOfRole}
 use Rattle.semantics.specs.Interpretations.{Grading, WellFormed}
 use Rattle.semantics.specs.Candidates.{gradeIn}
-use Rattle.semantics.specs.Links.{Allows, allows?, link}
+use Rattle.semantics.specs.Links.{Allows, allows?, linkBetween, link}
 use Rattle.semantics.proofs.Terms.{child-lt}
 use Rattle.semantics.proofs.Candidates.{gradeIn-le}
 
-module _ (G : Grading) (r c d : ℕ) where
-  -- allowed, with "some" and "all" as one: what a term takes through the link does not pass its grade
-  abbrev pub Bounded : ℕ → Type 0
-  Bounded s =
-      (i : ℕ) → i < length (G .terms) → (q : Quantifier) (x : ℕ) → term (G .terms) i ≡ quantified q r x
-      → Within q (through (G .connectives) q s (gradeIn G d x)) (gradeIn G c i)
+-- the terms have grades on the chain
+abbrev pub Graded : Grading → (ℕ → ℕ) → Type 0
+Graded G f = (i : ℕ) → i < length (G .terms) → f i ≤ G .steps
 
-  pub allows-bounded : (s : ℕ) → Allows G r c d s → Bounded s
-  allows-bounded s a i l universal x e = a .0 i l x e
-  allows-bounded s a i l existential x e = a .1 i l x e
+-- two functions give the terms the same grades
+abbrev pub Alike : Grading → (f g : ℕ → ℕ) → Type 0
+Alike G f g = (i : ℕ) → i < length (G .terms) → f i ≡ g i
 
-  pub bounded-allows : (s : ℕ) → Bounded s → Allows G r c d s
-  bounded-allows s f = (λ i l x e. f i l universal x e, λ i l x e. f i l existential x e)
+pub child-in : (G : Grading) → WellFormed G → (i : ℕ) → i < length (G .terms) → (q : Quantifier) (t x : ℕ) → term (G .terms) i ≡ quantified q t x
+    → x < length (G .terms)
+child-in G w i l q t x e = omega (arith, child-lt (G .terms) (w .ordered) i l q t x e)
 
-  pub link-le : link G r c d ≤ G .steps
-  unfolding link
-  link-le = greatest-le (allows? G r c d) (G .steps)
+module _ (G : Grading) (r : ℕ) (own child : ℕ → ℕ) where
+  -- what is asked of the terms of the role itself is all that is asked
+  pub allows-own : (s : ℕ)
+      → ((i : ℕ) → i < length (G .terms) → (q : Quantifier) (x : ℕ) → term (G .terms) i ≡ quantified q r x → Within q (through (G .connectives) q s (child x)) (own i))
+      → Allows G r own child s
+  allows-own s f i l q t x e g = f i l q x (subst (λ (z : ℕ). term (G .terms) i ≡ quantified q z x) g e)
 
-  pub link-most : (s : ℕ) → s ≤ G .steps → Bounded s → s ≤ link G r c d
-  unfolding link
-  link-most s h f = greatest-most (allows? G r c d) (G .steps) s h (bounded-allows s f)
+  -- in the words of the document: "all" and "some" apart
+  pub allows-each : (s : ℕ) → Allows G r own child s
+      ↔ (EachOfRole (G .terms) universal r (λ i x. own i ≤ G .connectives .implication s (child x))
+      × EachOfRole (G .terms) existential r (λ i x. G .connectives .conjunction s (child x) ≤ own i))
+  allows-each s = (
+    λ a. (λ i l x e. a i l universal r x e refl, λ i l x e. a i l existential r x e refl),
+    λ f. allows-own s (go f),
+  )
+    where
+      go : (EachOfRole (G .terms) universal r (λ i x. own i ≤ G .connectives .implication s (child x))
+          × EachOfRole (G .terms) existential r (λ i x. G .connectives .conjunction s (child x) ≤ own i))
+          → (i : ℕ) → i < length (G .terms) → (q : Quantifier) (x : ℕ) → term (G .terms) i ≡ quantified q r x → Within q (through (G .connectives) q s (child x)) (own i)
+      go f i l universal x e = f .0 i l x e
+      go f i l existential x e = f .1 i l x e
 
-  module _ (w : WellFormed G) where
-    child-le : (i : ℕ) → i < length (G .terms) → (q : Quantifier) (x : ℕ) → term (G .terms) i ≡ quantified q r x → gradeIn G d x ≤ G .steps
-    child-le i l q x e = gradeIn-le G w d x (omega (arith, child-lt (G .terms) (w .ordered) i l q r x e))
+  -- as a search downward meets it
+  pub between-greatest : linkBetween G r own child ≡ greatest (allows? G r own child) (G .steps)
+  unfolding linkBetween
+  between-greatest = refl
 
+  pub between-le : linkBetween G r own child ≤ G .steps
+  unfolding linkBetween
+  between-le = greatest-le (allows? G r own child) (G .steps)
+
+  pub between-most : (s : ℕ) → s ≤ G .steps → Allows G r own child s → s ≤ linkBetween G r own child
+  unfolding linkBetween
+  between-most s h a = greatest-most (allows? G r own child) (G .steps) s h a
+
+  module _ (w : WellFormed G) (own-le : Graded G own) (child-le : Graded G child) where
     -- no link is always allowed, and so is a weaker one where a stronger one is
-    pub bounded-zero : Bounded 0
-    bounded-zero i l q x e =
-        subst (λ (y : ℕ). Within q y (gradeIn G c i)) (sym (through-zero (G .steps) (G .connectives) (w .lawful) q _ (child-le i l q x e)))
-        (neutral-within q (G .steps) _ (gradeIn-le G w c i l))
+    allows-zero : Allows G r own child 0
+    allows-zero i l q t x e g =
+        subst (λ (y : ℕ). Within q y (own i))
+        (sym (through-zero (G .steps) (G .connectives) (w .lawful) q _ (child-le x (child-in G w i l q t x e)))) (neutral-within q (G .steps) _ (own-le i l))
 
-    pub bounded-down : (s t : ℕ) → s ≤ t → t ≤ G .steps → Bounded t → Bounded s
-    bounded-down s t h g f i l q x e =
-        within-trans q _ _ _ (through-mono (G .steps) (G .connectives) (w .lawful) q s t _ h g (child-le i l q x e)) (f i l q x e)
+    pub allows-down : (s t : ℕ) → s ≤ t → t ≤ G .steps → Allows G r own child t → Allows G r own child s
+    allows-down s u h k f i l q t x e g =
+        within-trans q _ _ _ (through-mono (G .steps) (G .connectives) (w .lawful) q s u _ h k (child-le x (child-in G w i l q t x e))) (f i l q t x e g)
 
-    pub link-bounded : Bounded (link G r c d)
-    unfolding link
-    link-bounded = allows-bounded (link G r c d) (greatest-passes (allows? G r c d) (bounded-allows 0 bounded-zero) (G .steps))
+    pub between-allows : Allows G r own child (linkBetween G r own child)
+    unfolding linkBetween
+    between-allows = greatest-passes (allows? G r own child) allows-zero (G .steps)
 
     -- up to the link everything is allowed, and nothing above it
-    pub link-allows : (s : ℕ) → s ≤ G .steps → (s ≤ link G r c d) ↔ Allows G r c d s
-    link-allows s h = (
-      λ l. bounded-allows s (bounded-down s (link G r c d) l link-le link-bounded),
-      λ a. link-most s h (allows-bounded s a),
-    )
+    pub up-to-link : (s : ℕ) → s ≤ G .steps → (s ≤ linkBetween G r own child) ↔ Allows G r own child s
+    up-to-link s h = (λ l. allows-down s (linkBetween G r own child) l between-le between-allows, between-most s h)
+
+-- equal grades
+module _ (G : Grading) (w : WellFormed G) (r : ℕ) where
+  pub allows-alike : (own own' child child' : ℕ → ℕ) → Alike G own own' → Alike G child child' → (s : ℕ)
+      → Allows G r own child s → Allows G r own' child' s
+  allows-alike own own' child child' a b s f i l q t x e g = rw (← a i l, ← b x (child-in G w i l q t x e)) (f i l q t x e g)
+
+  pub between-alike : (own own' child child' : ℕ → ℕ) → Graded G own → Graded G child → Alike G own own' → Alike G child child'
+      → linkBetween G r own child ≡ linkBetween G r own' child'
+  between-alike own own' child child' ho hc a b =
+      le-antisymm
+      (between-most G r own' child' _ (between-le G r own child) (allows-alike own own' child child' a b _ (between-allows G r own child w ho hc)))
+      (between-most G r own child _ (between-le G r own' child')
+      (allows-alike own' own child' child (λ i l. sym (a i l)) (λ i l. sym (b i l)) _
+      (between-allows G r own' child' w (λ i l. rw (← a i l) (ho i l)) (λ i l. rw (← b i l) (hc i l)))))
+
+-- ---- between two candidates
+
+module _ (G : Grading) (r c d : ℕ) where
+  pub link-le : link G r c d ≤ G .steps
+  link-le = between-le G r (gradeIn G c) (gradeIn G d)
+
+  pub link-most : (s : ℕ) → s ≤ G .steps → Allows G r (gradeIn G c) (gradeIn G d) s → s ≤ link G r c d
+  link-most = between-most G r (gradeIn G c) (gradeIn G d)
+
+  module _ (w : WellFormed G) where
+    pub link-allows : (s : ℕ) → s ≤ G .steps → (s ≤ link G r c d) ↔ Allows G r (gradeIn G c) (gradeIn G d) s
+    link-allows = up-to-link G r (gradeIn G c) (gradeIn G d) w (gradeIn-le G w c) (gradeIn-le G w d)
+
+    -- in the words of the document
+    pub link-each : (s : ℕ) → s ≤ G .steps → (s ≤ link G r c d)
+        ↔ (EachOfRole (G .terms) universal r (λ i x. gradeIn G c i ≤ G .connectives .implication s (gradeIn G d x))
+        × EachOfRole (G .terms) existential r (λ i x. G .connectives .conjunction s (gradeIn G d x) ≤ gradeIn G c i))
+    link-each s h = Iff·trans (link-allows s h) (allows-each G r (gradeIn G c) (gradeIn G d) s)
+
+    -- what a term of the role takes through the link does not pass its grade
+    pub link-bounded : (i : ℕ) → i < length (G .terms) → (q : Quantifier) (x : ℕ) → term (G .terms) i ≡ quantified q r x
+        → Within q (through (G .connectives) q (link G r c d) (gradeIn G d x)) (gradeIn G c i)
+    link-bounded i l q x e =
+        between-allows G r (gradeIn G c) (gradeIn G d) w (gradeIn-le G w c) (gradeIn-le G w d) i l q r x e refl

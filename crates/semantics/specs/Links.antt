@@ -1,29 +1,47 @@
--- The link (role degree) between two candidates. Document 01, "Types and links".
+-- The link (role degree) between two types. Document 01, "Types and links".
 -- Assumes nothing.
-use Prim.Native.Nat.{ℕ, _≤_}
-use native.Mathlib.Decide.{decLe}
-use Rattle.chain.specs.Decisions.{dec-and}
+use mathlib.Core.Path.{_≡_}
+use Prim.Native.Nat.{ℕ, _<_}
+use native.Mathlib.Decide.{ℕ-discrete}
+use lib.ListN.{length}
+use Rattle.chain.specs.Decisions.{dec-imp}
 use Rattle.chain.specs.Search.{greatest}
-use Rattle.chain.specs.Connectives.{existential, universal}
-use Rattle.semantics.specs.Quantified.{EachOfRole, eachOfRole?}
+use Rattle.chain.specs.Connectives.{Quantifier, through, Permits, within?}
+use Rattle.semantics.specs.Terms.{term}
+use Rattle.semantics.specs.Quantified.{quantified, eachQuantified?}
 use Rattle.semantics.specs.Interpretations.{Grading}
 use Rattle.semantics.specs.Candidates.{gradeIn}
 
-module _ (G : Grading) (r c d : ℕ) where
-  -- A link of grade s from candidate c to candidate d for the role r is allowed: "for each "all" term of that role, max(N − s, child in the
-  -- second) is at least its grade in the first, and for each "some" term min(s, child in the second) is at most its grade in the first"
+-- the terms of the role t bound the links of the role r
+abbrev pub Governs : Grading → (t r : ℕ) → Type 0
+Governs G t r = t ≡ r
+
+unfoldable pub governs? : (G : Grading) (t r : ℕ) → Dec (Governs G t r)
+unfolding ℕ-discrete
+governs? G t r = ℕ-discrete t r
+
+-- A link of the role r from one type to another, where `own` has the grades of the terms in the first and `child` those in the second: of
+-- candidates, of rows, of elements.
+module _ (G : Grading) (r : ℕ) (own child : ℕ → ℕ) where
+  -- term i allows a link of grade s: what it takes through the link from its child in the second does not pass its grade in the first
+  abbrev pub TermAllows : (s i : ℕ) → Type 0
+  TermAllows s i =
+      (q : Quantifier) (t x : ℕ) → term (G .terms) i ≡ quantified q t x → Governs G t r → Permits (G .connectives) q s (child x) (own i)
+
+  -- "for each "all" term of that role, max(N − s, child in the second) is at least its grade in the first, and for each "some" term
+  -- min(s, child in the second) is at most its grade in the first" (`allows-each` of proofs/Links)
   abbrev pub Allows : ℕ → Type 0
-  Allows s =
-      EachOfRole (G .terms) universal r (λ i x. gradeIn G c i ≤ G .connectives .implication s (gradeIn G d x))
-      × EachOfRole (G .terms) existential r (λ i x. G .connectives .conjunction s (gradeIn G d x) ≤ gradeIn G c i)
+  Allows s = (i : ℕ) → i < length (G .terms) → TermAllows s i
 
   unfoldable pub allows? : (s : ℕ) → Dec (Allows s)
-  unfolding dec-and decLe eachOfRole?
-  allows? s =
-      dec-and (eachOfRole? (G .terms) universal r _ (λ i x. decLe (gradeIn G c i) (G .connectives .implication s (gradeIn G d x))))
-      (eachOfRole? (G .terms) existential r _ (λ i x. decLe (G .connectives .conjunction s (gradeIn G d x)) (gradeIn G c i)))
+  unfolding dec-imp within? governs? eachQuantified?
+  allows? s = eachQuantified? (G .terms) _ (λ i q t x. dec-imp (governs? G t r) (within? q (through (G .connectives) q s (child x)) (own i)))
 
   -- "the greatest r at which" it is allowed
-  unfoldable pub link : ℕ
+  unfoldable pub linkBetween : ℕ
   unfolding allows? greatest
-  link = greatest allows? (G .steps)
+  linkBetween = greatest allows? (G .steps)
+
+-- between two candidates
+abbrev pub link : Grading → (r c d : ℕ) → ℕ
+link G r c d = linkBetween G r (gradeIn G c) (gradeIn G d)

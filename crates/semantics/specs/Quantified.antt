@@ -1,13 +1,12 @@
 -- The quantified terms of a list, "some" and "all" as one form, and whether something holds at each of them.
 -- Assumes nothing.
-use mathlib.Core.Path.{_≡_, refl, ap₂, subst, _∙_}
+use mathlib.Core.Path.{_≡_, refl, subst}
 use mathlib.Core.List.{List}
 use Prim.Native.Nat.{ℕ, _<_}
-use native.Mathlib.Decide.{ℕ-discrete}
 use lib.ListN.{length}
-use Rattle.chain.specs.Decisions.{dec-imp, dec-map}
+use Rattle.chain.specs.Decisions.{dec-map}
 use Rattle.chain.specs.Search.{all?}
-use Rattle.chain.specs.Connectives.{Quantifier, Quantifier-discrete, existential, universal}
+use Rattle.chain.specs.Connectives.{Quantifier, existential, universal}
 use Rattle.semantics.specs.Terms.{Term, name, not, and, or, some, all, top, bottom, term}
 
 abbrev pub quantified : Quantifier → ℕ → ℕ → Term
@@ -62,9 +61,3 @@ module _ (P : Quantifier → ℕ → ℕ → Type 0) where
 unfoldable pub eachQuantified? : (ts : List Term) (P : ℕ → Quantifier → ℕ → ℕ → Type 0) → ((i : ℕ) (q : Quantifier) (r c : ℕ) → Dec (P i q r c)) → Dec (EachQuantified ts P)
 unfolding all? dec-map case?
 eachQuantified? ts P p = all? (λ i. dec-map (case-at (P i) (term ts i)) (case-of (P i) (term ts i)) (case? (P i) (p i) (term ts i))) (length ts)
-
-unfoldable pub eachOfRole? : (ts : List Term) (q : Quantifier) (r : ℕ) (P : ℕ → ℕ → Type 0) → ((i c : ℕ) → Dec (P i c)) → Dec (EachOfRole ts q r P)
-unfolding eachQuantified? dec-map dec-imp ℕ-discrete
-eachOfRole? ts q r P p =
-    dec-map (λ f i l c e. f i l q r c e refl refl) (λ f i l k s c e m n. f i l c (e ∙ ap₂ (λ (z : Quantifier) (t : ℕ). quantified z t c) m n))
-    (eachQuantified? ts (λ i k s c. k ≡ q → s ≡ r → P i c) (λ i k s c. dec-imp (Quantifier-discrete k q) (dec-imp (ℕ-discrete s r) (p i c))))

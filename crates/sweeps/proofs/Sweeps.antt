@@ -11,6 +11,7 @@ use lib.Seq.{getD-set-same, getD-set-other}
 use borrow.Author.Count.{below-more}
 use Rattle.elimination.specs.Marks.{Marked}
 use Rattle.elimination.proofs.Marks.{marked-lt, marked-set, set-marked, rank-unmarked}
+use Rattle.gradings.specs.declared.Logic.{Logic}
 use Rattle.witnesses.specs.Tables.{Tables, tables, Ready}
 use Rattle.witnesses.specs.Search.{Witness, Remembers, Supported}
 use Rattle.sweeps.specs.Sweeps.{Reduced, State, Visited, Swept, Settled}
@@ -93,23 +94,23 @@ module _ (T : Tables) where
 
 -- ---- the same tables, where the number of candidates is written otherwise
 
-module _ (N m n : ℕ) (slots own child : List ℕ) (e : m ≡ n) where
-  pub ready-sized : Ready (tables N m slots own child) → Ready (tables N n slots own child)
-  ready-sized = subst (λ (k : ℕ). Ready (tables N k slots own child)) e
+module _ (lg : Logic) (m n : ℕ) (slots own child : List ℕ) (e : m ≡ n) where
+  pub ready-sized : Ready (tables lg m slots own child) → Ready (tables lg n slots own child)
+  ready-sized = subst (λ (k : ℕ). Ready (tables lg k slots own child)) e
 
-  pub state-sized : (marks memory : List ℕ) (left : ℕ) → State (tables N m slots own child) marks memory left → State (tables N n slots own child) marks memory left
-  state-sized marks memory left = subst (λ (k : ℕ). State (tables N k slots own child) marks memory left) e
+  pub state-sized : (marks memory : List ℕ) (left : ℕ) → State (tables lg m slots own child) marks memory left → State (tables lg n slots own child) marks memory left
+  state-sized marks memory left = subst (λ (k : ℕ). State (tables lg k slots own child) marks memory left) e
 
-  pub reduced-sized : (marks after : List ℕ) → Reduced (tables N m slots own child) marks after → Reduced (tables N n slots own child) marks after
-  reduced-sized marks after = subst (λ (k : ℕ). Reduced (tables N k slots own child) marks after) e
+  pub reduced-sized : (marks after : List ℕ) → Reduced (tables lg m slots own child) marks after → Reduced (tables lg n slots own child) marks after
+  reduced-sized marks after = subst (λ (k : ℕ). Reduced (tables lg k slots own child) marks after) e
 
-  pub visited-sized : (c : ℕ) (marks after : List ℕ) (left r : ℕ) → Visited (tables N m slots own child) c marks after left r
-      → Visited (tables N n slots own child) c marks after left r
-  visited-sized c marks after left r = subst (λ (k : ℕ). Visited (tables N k slots own child) c marks after left r) e
+  pub visited-sized : (c : ℕ) (marks after : List ℕ) (left r : ℕ) → Visited (tables lg m slots own child) c marks after left r
+      → Visited (tables lg n slots own child) c marks after left r
+  visited-sized c marks after left r = subst (λ (k : ℕ). Visited (tables lg k slots own child) c marks after left r) e
 
-  pub swept-sized : (marks after : List ℕ) (left r : ℕ) → Swept (tables N m slots own child) m marks after left r
-      → Swept (tables N n slots own child) n marks after left r
-  swept-sized marks after left r = subst (λ (k : ℕ). Swept (tables N k slots own child) k marks after left r) e
+  pub swept-sized : (marks after : List ℕ) (left r : ℕ) → Swept (tables lg m slots own child) m marks after left r
+      → Swept (tables lg n slots own child) n marks after left r
+  swept-sized marks after left r = subst (λ (k : ℕ). Swept (tables lg k slots own child) k marks after left r) e
 
-  pub settled-sized : (marks after : List ℕ) (r : ℕ) → Settled (tables N m slots own child) marks after r → Settled (tables N n slots own child) marks after r
-  settled-sized marks after r = subst (λ (k : ℕ). Settled (tables N k slots own child) marks after r) e
+  pub settled-sized : (marks after : List ℕ) (r : ℕ) → Settled (tables lg m slots own child) marks after r → Settled (tables lg n slots own child) marks after r
+  settled-sized marks after r = subst (λ (k : ℕ). Settled (tables lg k slots own child) marks after r) e

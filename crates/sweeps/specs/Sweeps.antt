@@ -7,7 +7,8 @@ use lib.ListN.{length, getD}
 use Rattle.chain.specs.Search.{rank}
 use Rattle.chain.specs.Lists.{Mem}
 use Rattle.elimination.specs.Marks.{Marked, marked?}
-use Rattle.witnesses.specs.Tables.{slotCount, Tables}
+use Rattle.slots.specs.Slots.{slotCount}
+use Rattle.witnesses.specs.Tables.{Tables}
 use Rattle.witnesses.specs.Search.{Witness, Remembers, Supported}
 
 -- each slot of each candidate in xs has a witness in xs

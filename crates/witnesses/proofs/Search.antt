@@ -1,56 +1,117 @@
 -- Laws of the search for witnesses by the tables.
 -- Assumes nothing.
-use mathlib.Core.Path.{_≡_, refl, sym, ap, subst, _∙_}
+use mathlib.Core.Path.{_≡_, sym, ap, subst, _∙_}
 use mathlib.Core.Logic.{dite, _↔_}
-use mathlib.Core.List.{List}
+use mathlib.Core.List.{List, []}
 use Prim.Native.Nat.{ℕ, _+_, _-_, _*_, _≤_, _<_}
 use native.Mathlib.Decide.{ℕ-discrete, decLt}
+use native.Mathlib.Nat.{le-refl, le-trans}
 use native.Mathlib.Omega.{arith}
 use lib.ListN.{length, getD, set}
 use lib.Seq.{getD-set-same, getD-set-other}
 use borrow.Author.Count.{below-more}
+use Rattle.chain.specs.Connectives.{Quantifier, Within, Bounds}
+use Rattle.chain.proofs.Connectives.{within-trans, through-mono}
+use Rattle.semantics.specs.Links.{Governs}
+use Rattle.sections.proofs.Terms.{by-some, by-all}
+use Rattle.gradings.specs.Gradings.{connectivesOf, grading}
+use Rattle.gradings.specs.declared.Logic.{Logic}
+use Rattle.gradings.proofs.Gradings.{logic-lawful}
+use Rattle.slots.specs.Slots.{slotCount, slotKind, slotRole, slotQuantifier}
 use Rattle.elimination.specs.Marks.{Marked}
 use Rattle.elimination.proofs.Marks.{marked-lt}
-use Rattle.witnesses.specs.Tables.{slotCount, quantifierOf, cell, Tables, Ready}
-use Rattle.witnesses.specs.Search.{level, Low, High, wanted, BoundsAt, Box, Witness, Inside, NextHit, NextWitness, Remembered, Remembers, Backed}
+use Rattle.witnesses.specs.Tables.{cell, Tables, Ready}
+use Rattle.witnesses.specs.Search.{WantsAt, Between, BoxTo, BoxFor, Boxes, OthersKept, Witness, Inside, NextHit, NextWitness, Remembered, Remembers, Backed}
 
--- ---- the level, by the kind
+-- ---- the boxes of slot q of candidate c
 
-pub level-some : (k N g : ℕ) → k ≡ 4 → g ≡ level (quantifierOf k) N g
-unfolding level
-level-some k N g e = subst (λ (z : ℕ). g ≡ level (quantifierOf z) N g) (sym e) refl
+module _ (lg : Logic) (slots own : List ℕ) (c q : ℕ) where
+  -- the bounds on the child of slot j, by its role and its kind
+  module _ (v j : ℕ) where
+    pub between-other : ¬ Governs (grading lg []) (slotRole slots j) (slotRole slots q) → Between lg slots own c q v j 0 (lg .steps)
+    between-other n y h = (λ p w. absurd (n w), λ p. (omega arith, h))
 
-pub level-all : (k N g : ℕ) → k ≡ 5 → N - g ≡ level (quantifierOf k) N g
-unfolding level
-level-all k N g e = subst (λ (z : ℕ). N - g ≡ level (quantifierOf z) N g) (sym e) refl
+    module _ (w : Governs (grading lg []) (slotRole slots j) (slotRole slots q)) (e : ℕ)
+        (f : Bounds (lg .steps) (connectivesOf lg) (slotQuantifier slots j) v (cell own c j) e) where
+      abbrev Edge : (a b : ℕ) → Quantifier → Type 0
+      Edge a b k = (y : ℕ) → y ≤ lg .steps → ((a ≤ y) × (y ≤ b)) ↔ Within k y e
 
--- ---- the box
+      between : (a b : ℕ) → Edge a b (slotQuantifier slots j) → Between lg slots own c q v j a b
+      between a b g y h = (λ p _. f y h .0 (g y h .0 p), λ p. g y h .1 (f y h .1 (p w)))
 
--- one slot more, as a loop makes it
-pub box-more : (N : ℕ) (slots own : List ℕ) (c q : ℕ) (low high : List ℕ) (j a b s : ℕ) → j < length low → j < length high → s ≡ wanted N slots own c q
-    → Low N slots q j (cell own c j) s a → High N slots q j (cell own c j) s b
-    → ((i : ℕ) → i < j → BoundsAt N slots own c q low high i) → (i : ℕ) → i < j + 1 → BoundsAt N slots own c q (set low j a) (set high j b) i
-box-more N slots own c q low high j a b s hl hh e la hb f =
-    below-more (BoundsAt N slots own c q (set low j a) (set high j b)) j
-    (λ i h. rw (getD-set-other low j i a 0 (omega arith), getD-set-other high j i b 0 (omega arith)) (f i h))
-    (rw (getD-set-same low j a 0 hl, getD-set-same high j b 0 hh, ← e) (la, hb))
+      pub between-some : slotKind slots j ≡ 4 → Between lg slots own c q v j 0 e
+      between-some k = between 0 e (by-some (Edge 0 e) (slotKind slots j) k (λ y h. (λ p. p .1, λ p. (omega arith, p))))
 
--- the rows in the box are the witnesses', and so the next hit is the next witness
-module _ (T : Tables) (R : Ready T) (c q : ℕ) (low high : List ℕ) (b : Box (T .steps) (T .slots) (T .own) c q low high) where
-  inside-witness : (d : ℕ) → d < T .count → Inside (slotCount (T .slots)) low high (T .child) d ↔ Witness T c q d
-  inside-witness d h = (
-    λ i j l.
-        let y = cell (T .child) d j in
-        let k = R .child-le d j h l in
-        (b j l .0 y k .0 (i j l .0), b j l .1 y k .0 (i j l .1)),
-    λ w j l.
-        let y = cell (T .child) d j in
-        let k = R .child-le d j h l in
-        (b j l .0 y k .1 (w j l .0), b j l .1 y k .1 (w j l .1)),
-  )
+      pub between-all : 4 ≤ slotKind slots j → slotKind slots j ≤ 5 → ¬ (slotKind slots j ≡ 4) → Between lg slots own c q v j e (lg .steps)
+      between-all l m n = between e (lg .steps) (by-all (Edge e (lg .steps)) (slotKind slots j) l m n (λ y h. (λ p. p .0, λ p. (p, h))))
 
-  pub next-witness : (marks : List ℕ) → length marks ≡ T .count → (start r : ℕ) → NextHit (slotCount (T .slots)) low high (T .child) marks start r
-      → NextWitness T marks c q start r
+  -- one slot more of a box, as a loop makes it
+  pub box-more : (low high : List ℕ) (v j a b : ℕ) → 16 * v + j < length low → 16 * v + j < length high → Between lg slots own c q v j a b
+      → BoxTo lg slots own c q low high v j → BoxTo lg slots own c q (set low (16 * v + j) a) (set high (16 * v + j) b) v (j + 1)
+  box-more low high v j a b hl hh new f =
+      below-more (λ i. Between lg slots own c q v i (cell (set low (16 * v + j) a) v i) (cell (set high (16 * v + j) b) v i)) j
+      (λ i h. rw (getD-set-other low (16 * v + j) (16 * v + i) a 0 (omega arith), getD-set-other high (16 * v + j) (16 * v + i) b 0 (omega arith)) (f i h))
+      (rw (getD-set-same low (16 * v + j) a 0 hl, getD-set-same high (16 * v + j) b 0 hh) new)
+
+  -- one grade more, which wants level v, in the three ways of the code
+  module _ (wanted low high : List ℕ) (x v : ℕ) (room : x < length wanted) (B : Boxes lg slots own c q wanted low high x) (w : WantsAt lg slots own c q x v) where
+    boxes-more : (low' high' : List ℕ) → Boxes lg slots own c q wanted low' high' x → (v ≤ lg .steps → BoxTo lg slots own c q low' high' v (slotCount slots))
+        → Boxes lg slots own c q (set wanted x v) low' high' (x + 1)
+    boxes-more low' high' f new =
+        below-more (λ y. BoxFor lg slots own c q low' high' y (getD (set wanted x v) y 0)) x
+        (λ y h. rw (getD-set-other wanted x y v 0 (omega arith)) (f y h))
+        (rw (getD-set-same wanted x v 0 room) (record { wants = w; box = new }))
+
+    -- no level on the chain is enough for it
+    pub boxes-none : lg .steps < v → Boxes lg slots own c q (set wanted x v) low high (x + 1)
+    boxes-none h = boxes-more low high B (λ l. absurd (omega arith))
+
+    -- the grade before wants the same
+    pub boxes-shared : 0 < x → getD (set wanted x v) (x - 1) 0 ≡ v → Boxes lg slots own c q (set wanted x v) low high (x + 1)
+    boxes-shared h e =
+        boxes-more low high B
+        (subst (λ (u : ℕ). u ≤ lg .steps → BoxTo lg slots own c q low high u (slotCount slots))
+        (sym (getD-set-other wanted x (x - 1) v 0 (omega arith)) ∙ e) (B (x - 1) (omega arith) .box))
+
+    -- its box is made: a grade before it that wants another level keeps its own, and one that wants the same has it anew
+    pub boxes-made : (low' high' : List ℕ) → slotCount slots ≤ 16 → OthersKept v low low' → OthersKept v high high'
+        → BoxTo lg slots own c q low' high' v (slotCount slots) → Boxes lg slots own c q (set wanted x v) low' high' (x + 1)
+    boxes-made low' high' few kl kh new =
+        boxes-more low' high'
+        (λ y h. let u = B y h in record {
+          wants = u .wants;
+          box = λ l. dite (ℕ-discrete (getD wanted y 0) v)
+              (λ e. subst (λ (z : ℕ). BoxTo lg slots own c q low' high' z (slotCount slots)) (sym e) new)
+              (λ n j m. rw (kl (getD wanted y 0) j n (omega arith), kh (getD wanted y 0) j n (omega arith)) (u .box l j m));
+        }) (λ _. new)
+
+pub others-set : (v j a : ℕ) (old new : List ℕ) → j < 16 → OthersKept v old new → OthersKept v old (set new (16 * v + j) a)
+others-set v j a old new h f u i n l = getD-set-other new (16 * v + j) (16 * u + i) a 0 (omega arith) ∙ f u i n l
+
+-- ---- the search
+
+-- the rows in their boxes are the witnesses', and so the next hit is the next witness
+module _ (T : Tables) (R : Ready T) (c q : ℕ) (hq : q < slotCount (T .slots)) (wanted low high : List ℕ)
+    (b : Boxes (T .logic) (T .slots) (T .own) c q wanted low high (T .logic .steps + 1)) where
+  inside-witness : (d : ℕ) → d < T .count → Inside (T .logic .steps) (slotCount (T .slots)) q wanted low high (T .child) d ↔ Witness T c q d
+  inside-witness d h =
+      let x = cell (T .child) d q in
+      let v = getD wanted x 0 in
+      let u = b x (omega (arith, R .child-le d q h hq)) in (
+        λ i. (v, i .0, u .wants v (i .0) .0 (le-refl _), λ j l. u .box (i .0) j l (cell (T .child) d j) (R .child-le d j h l) .0 (i .1 j l)),
+        λ w.
+            let k = u .wants (w .0) (w .1) .1 (w .2) in
+            let n = le-trans k (w .1) in (
+              n,
+              λ j l. u .box n j l (cell (T .child) d j) (R .child-le d j h l) .1
+                  (λ e. within-trans (slotQuantifier (T .slots) j) _ _ _
+                  (through-mono (T .logic .steps) (connectivesOf (T .logic)) (logic-lawful (T .logic)) (slotQuantifier (T .slots) j) v (w .0)
+                  (cell (T .child) d j) k (w .1) (R .child-le d j h l)) (w .3 j l e)),
+            ),
+      )
+
+  pub next-witness : (marks : List ℕ) → length marks ≡ T .count → (start r : ℕ)
+      → NextHit (T .logic .steps) (slotCount (T .slots)) q wanted low high (T .child) marks start r → NextWitness T marks c q start r
   next-witness marks size start r f = record {
     passed = λ d l s o w. f .passed d l s (o, inside-witness d (omega (arith, marked-lt marks d o)) .1 w);
     found = λ h. let u = f .found (omega arith) in (u .0, inside-witness r h .0 (u .1));

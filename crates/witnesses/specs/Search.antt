@@ -1,65 +1,71 @@
--- The search for witnesses by the tables: the box of grades in which the children of a witness lie, the next marked candidate in it, and what
--- is remembered of earlier searches.
+-- The search for witnesses by the tables: when a candidate is a witness, the boxes of grades in which the children of a witness lie, the next
+-- marked candidate in its box, and what is remembered of earlier searches.
 -- Assumes nothing.
 use mathlib.Core.Path.{_≡_}
 use mathlib.Core.Logic.{_↔_}
-use mathlib.Core.List.{List}
-use Prim.Native.Nat.{ℕ, _+_, _-_, _≤_, _<_, min, max}
+use mathlib.Core.List.{List, []}
+use Prim.Native.Nat.{ℕ, _+_, _-_, _≤_, _<_}
 use lib.ListN.{length, getD}
-use Rattle.chain.specs.Connectives.{Quantifier, existential, universal}
+use Rattle.chain.specs.Connectives.{Reaches, Wants}
+use Rattle.gradings.specs.Gradings.{connectivesOf, grading}
+use Rattle.gradings.specs.declared.Logic.{Logic}
+use Rattle.slots.specs.Slots.{slotCount, slotRole, slotQuantifier, SlotAllows}
 use Rattle.elimination.specs.Marks.{Marked}
-use Rattle.witnesses.specs.Tables.{slotCount, slotKind, slotRole, quantifierOf, cell, Tables}
+use Rattle.witnesses.specs.Tables.{cell, Tables}
 
--- ---- the box
-
--- the link that a term graded g wants of its witness: g for "some", N − g for "all"
-unfoldable pub level : Quantifier → (N g : ℕ) → ℕ
-level existential N g = g
-level universal N g = N - g
-
--- What slot j, graded o, asks of its child's grade y in a witness of slot q through a link of at least s. Every slot of the same role asks
--- what the link asks; slot q itself asks that its child is not short of its grade.
-module _ (N : ℕ) (slots : List ℕ) (q j o s : ℕ) where
-  abbrev pub NotBelow : ℕ → Type 0
-  NotBelow y =
-      (slotKind slots j ≡ 5 → slotRole slots j ≡ slotRole slots q → o ≤ max (N - s) y) × (slotKind slots j ≡ 4 → j ≡ q → o ≤ y)
-
-  abbrev pub NotAbove : ℕ → Type 0
-  NotAbove y =
-      (slotKind slots j ≡ 4 → slotRole slots j ≡ slotRole slots q → min s y ≤ o) × (slotKind slots j ≡ 5 → j ≡ q → y ≤ o)
-
-  -- and so the grade is at least l, and at most h
-  abbrev pub Low : ℕ → Type 0
-  Low l = (y : ℕ) → y ≤ N → (l ≤ y) ↔ NotBelow y
-
-  abbrev pub High : ℕ → Type 0
-  High h = (y : ℕ) → y ≤ N → (y ≤ h) ↔ NotAbove y
+-- ---- a witness
 
 -- for slot q of candidate c
-module _ (N : ℕ) (slots own : List ℕ) (c q : ℕ) where
-  abbrev pub wanted : ℕ
-  wanted = level (quantifierOf (slotKind slots q)) N (cell own c q)
+module _ (l : Logic) (slots own : List ℕ) (c q : ℕ) where
+  -- slot j, with a child of grade y, allows a link of grade s for the role of slot q
+  abbrev pub AllowsAt : (s j y : ℕ) → Type 0
+  AllowsAt s j y = SlotAllows (grading l []) slots (slotRole slots q) s j y (cell own c j)
 
-  abbrev pub BoundsAt : (low high : List ℕ) → ℕ → Type 0
-  BoundsAt low high j = Low N slots q j (cell own c j) wanted (getD low j 0) × High N slots q j (cell own c j) wanted (getD high j 0)
+  -- v is the link that it wants where its own child has grade x
+  abbrev pub WantsAt : (x v : ℕ) → Type 0
+  WantsAt x v = Wants (l .steps) (connectivesOf l) (slotQuantifier slots q) (cell own c q) x v
 
-  -- the box: for each slot the bounds on its child's grade
-  abbrev pub Box : (low high : List ℕ) → Type 0
-  Box low high = (j : ℕ) → j < slotCount slots → BoundsAt low high j
-
--- candidate d is a witness of slot q of c, by the tables
+-- candidate d is a witness of slot q of c, by the tables: through some link that every slot allows it reaches its grade
 abbrev pub Witness : Tables → (c q d : ℕ) → Type 0
 Witness T c q d =
-    (j : ℕ) → j < slotCount (T .slots)
-    → NotBelow (T .steps) (T .slots) q j (cell (T .own) c j) (wanted (T .steps) (T .slots) (T .own) c q) (cell (T .child) d j)
-    × NotAbove (T .steps) (T .slots) q j (cell (T .own) c j) (wanted (T .steps) (T .slots) (T .own) c q) (cell (T .child) d j)
+    (s : ℕ)
+    × (s ≤ T .logic .steps)
+    × Reaches (connectivesOf (T .logic)) (slotQuantifier (T .slots) q) s (cell (T .child) d q) (cell (T .own) c q)
+    × ((j : ℕ) → j < slotCount (T .slots) → AllowsAt (T .logic) (T .slots) (T .own) c q s j (cell (T .child) d j))
+
+-- ---- the boxes: for each level that is wanted the bounds on each slot's child, in rows of 16
+
+module _ (l : Logic) (slots own : List ℕ) (c q : ℕ) where
+  -- from a to b the grades of slot j's child at which a link of level v is allowed
+  abbrev pub Between : (v j a b : ℕ) → Type 0
+  Between v j a b = (y : ℕ) → y ≤ l .steps → ((a ≤ y) × (y ≤ b)) ↔ AllowsAt l slots own c q v j y
+
+  -- row v is the box of level v, as far as the slots below m go
+  abbrev pub BoxTo : (low high : List ℕ) (v m : ℕ) → Type 0
+  BoxTo low high v m = (j : ℕ) → j < m → Between v j (cell low v j) (cell high v j)
+
+  -- the grade x wants level v, and if that is on the chain it has its box
+  pub record BoxFor (low high : List ℕ) (x v : ℕ) : Type 0 where
+    pub wants : WantsAt l slots own c q x v
+    pub box : v ≤ l .steps → BoxTo low high v (slotCount slots)
+
+  -- for every grade below n, with the level that is noted for it
+  abbrev pub Boxes : (wanted low high : List ℕ) (n : ℕ) → Type 0
+  Boxes wanted low high n = (x : ℕ) → x < n → BoxFor low high x (getD wanted x 0)
+
+-- but for row v, all is as it was
+abbrev pub OthersKept : (v : ℕ) (old new : List ℕ) → Type 0
+OthersKept v old new = (u j : ℕ) → ¬ (u ≡ v) → j < 16 → cell new u j ≡ cell old u j
 
 -- ---- the search
 
-module _ (m : ℕ) (low high child : List ℕ) where
-  -- row d of the children's grades lies in a box of m slots
+module _ (N m q : ℕ) (wanted low high child : List ℕ) where
+  -- row d of the children's grades lies in the box, of m slots, of the level that is wanted for its grade at slot q
   abbrev pub Inside : ℕ → Type 0
-  Inside d = (j : ℕ) → j < m → (getD low j 0 ≤ cell child d j) × (cell child d j ≤ getD high j 0)
+  Inside d =
+      (getD wanted (cell child d q) 0 ≤ N)
+      × ((j : ℕ) → j < m
+      → (cell low (getD wanted (cell child d q) 0) j ≤ cell child d j) × (cell child d j ≤ cell high (getD wanted (cell child d q) 0) j))
 
   -- d is marked, and its row lies in the box
   abbrev pub Hit : (marks : List ℕ) → ℕ → Type 0

@@ -1,107 +1,170 @@
 // The search for witnesses among marked candidates, by tables of grades.
-ghost use mathlib.Core.Path.{_≡_};
 ghost use Prim.Native.Nat.{ℕ, _+_, _*_, _-_, _<_, _≤_};
-ghost use lib.ListN.{length, getD};
+ghost use lib.ListN.{length};
 ghost use Rattle.chain.specs.Decisions.{Tells};
+ghost use Rattle.slots.specs.Slots.{slotCount, slotKind};
 ghost use Rattle.elimination.specs.Marks.{Marked};
-ghost use Rattle.witnesses.specs.Tables.{slotCount, slotKind, quantifierOf, cell, tables, Ready};
-ghost use Rattle.witnesses.specs.Search.{level, Low, High, Box, Inside, Hit, NextHit, NextWitness, Remembers, Backed, Supported};
+ghost use Rattle.witnesses.specs.Tables.{cell, tables, Ready};
+ghost use Rattle.witnesses.specs.Search.{Between, BoxTo, Boxes, OthersKept, Inside, Hit, NextHit, NextWitness, Remembers, Backed, Supported};
+use gradings::Logic;
+use gradings::bound;
+use gradings::governs;
+use gradings::wants;
+use sections::wide;
 
-// ---- the box of grades in which the children of a witness lie
-
-// The link that a term of this kind and grade wants of its witness.
-fn level_of(kind: u8, steps: u8, grade: u8) -> u8
-    requires { ⌜ (4 ≤ kind) × (kind ≤ 5) × (grade ≤ steps) ⌝ }
-    ensures { λ r. ⌜ (r ≡ level (quantifierOf kind) steps grade) × (r ≤ steps) ⌝ }
-{
-    if kind == 4 {
-        return grade;
-    }
-    steps - grade
+// The bounds on the grade of a slot's child.
+struct Interval {
+    low: u8,
+    high: u8,
 }
 
-// The least grade that the child of slot `j` may have in a witness of slot `q`.
-fn low_of(steps: u8, slots: &[u8], q: usize, j: usize, grade: u8, level: u8) -> u8
-    requires { ⌜ (q < slotCount (now slots)) × (j < slotCount (now slots)) × (level ≤ steps) ⌝ }
-    requires { ⌜ (4 ≤ slotKind (now slots) j) × (slotKind (now slots) j ≤ 5) ⌝ }
-    ensures { λ r. ⌜ Low steps (now (slots .entry)) q j grade level r ⌝ }
-{
-    if slots[4 * j] == 4 {
-        if j == q {
-            return grade;
-        }
-        return 0;
-    }
-    if slots[4 * j + 1] != slots[4 * q + 1] {
-        return 0;
-    }
-    if steps - level < grade {
-        return grade;
-    }
-    0
-}
+// ---- the boxes of grades in which the children of a witness lie
 
-// The greatest grade that it may have.
-fn high_of(steps: u8, slots: &[u8], q: usize, j: usize, grade: u8, level: u8) -> u8
-    requires { ⌜ (q < slotCount (now slots)) × (j < slotCount (now slots)) × (level ≤ steps) ⌝ }
-    requires { ⌜ (4 ≤ slotKind (now slots) j) × (slotKind (now slots) j ≤ 5) ⌝ }
-    ensures { λ r. ⌜ High steps (now (slots .entry)) q j grade level r ⌝ }
-{
-    if slots[4 * j] == 5 {
-        if j == q {
-            return grade;
-        }
-        return steps;
-    }
-    if slots[4 * j + 1] != slots[4 * q + 1] {
-        return steps;
-    }
-    if grade < level {
-        return grade;
-    }
-    steps
-}
-
-// Makes the box for slot `q` of candidate `c`: no link is worked out, only what each slot asks of its child's grade.
-fn make_box(
-    steps: u8,
+// The grades of the child of slot `j` at which it allows a link of this level for the role of slot `q`.
+fn bounds_of(
+    logic: Logic,
     slots: &[u8],
     own: &[u8],
     c: usize,
     q: usize,
-    low: &mut [u8; 16],
-    high: &mut [u8; 16],
+    j: usize,
+    level: u8,
+) -> Interval
+    requires { ⌜ (q < slotCount (now slots)) × (j < slotCount (now slots)) × (slotCount (now slots) ≤ 16) × (c < 16384) × (16 * c + 16 ≤ length (now own)) ⌝ }
+    requires { ⌜ (level ≤ logic .steps) × (4 ≤ slotKind (now slots) j) × (slotKind (now slots) j ≤ 5) × (cell (now own) c j ≤ logic .steps) ⌝ }
+    ensures { λ r. ⌜ Between logic (now (slots .entry)) (now (own .entry)) c q level j (r .low) (r .high) ⌝ }
+{
+    if !governs(logic, slots[4 * j + 1], slots[4 * q + 1]) {
+        return Interval {
+            low: 0,
+            high: logic.steps,
+        };
+    }
+    let kind = slots[4 * j];
+    let edge = bound(logic, kind, level, own[16 * c + j]);
+    if kind == 4 {
+        return Interval { low: 0, high: edge };
+    }
+    Interval {
+        low: edge,
+        high: logic.steps,
+    }
+}
+
+// Makes the box of a level for slot `q` of candidate `c`: no link is worked out, only what each slot asks of its child's grade.
+fn make_box(
+    logic: Logic,
+    slots: &[u8],
+    own: &[u8],
+    c: usize,
+    q: usize,
+    level: u8,
+    low: &mut [u8],
+    high: &mut [u8],
 )
     requires { ⌜ (q < slotCount (now slots)) × (slotCount (now slots) ≤ 16) × (c < 16384) × (16 * c + 16 ≤ length (now own)) ⌝ }
-    requires { ⌜ (length (now low) ≡ 16) × (length (now high) ≡ 16) ⌝ }
-    requires { ⌜ ((j : ℕ) → j < slotCount (now slots) → (4 ≤ slotKind (now slots) j) × (slotKind (now slots) j ≤ 5) × (cell (now own) c j ≤ steps)) ⌝ }
-    ensures { λ _. ⌜ Box steps (now (slots .entry)) (now (own .entry)) c q (now (low .exit)) (now (high .exit)) ⌝ }
+    requires { ⌜ (logic .steps ≤ 16) × (level ≤ logic .steps) × (272 ≤ length (now low)) × (272 ≤ length (now high)) ⌝ }
+    requires { ⌜ ((j : ℕ) → j < slotCount (now slots) → (4 ≤ slotKind (now slots) j) × (slotKind (now slots) j ≤ 5) × (cell (now own) c j ≤ logic .steps)) ⌝ }
+    ensures { λ _. ⌜ BoxTo logic (now (slots .entry)) (now (own .entry)) c q (now (low .exit)) (now (high .exit)) level (slotCount (now (slots .entry))) ⌝ }
+    ensures { λ _. ⌜ OthersKept level (now (low .entry)) (now (low .exit)) × OthersKept level (now (high .entry)) (now (high .exit)) ⌝ }
 {
     let count = slots.len() / 4;
-    let level = level_of(slots[4 * q], steps, own[16 * c + q]);
+    let row = 16 * wide(level);
     let mut j = 0;
     while j < count {
-        let grade = own[16 * c + j];
-        low[j] = low_of(steps, slots, q, j, grade, level);
-        high[j] = high_of(steps, slots, q, j, grade, level);
+        let b = bounds_of(logic, slots, own, c, q, j, level);
+        low[row + j] = b.low;
+        high[row + j] = b.high;
         j += 1;
+    }
+}
+
+// Notes the level that slot `q` of candidate `c` wants where its own child has grade `x`, and makes its box, unless the grade before wants the same
+// or none on the chain is enough.
+fn make_box_for(
+    logic: Logic,
+    slots: &[u8],
+    own: &[u8],
+    c: usize,
+    q: usize,
+    x: u8,
+    wanted: &mut [u8],
+    low: &mut [u8],
+    high: &mut [u8],
+)
+    requires { ⌜ (q < slotCount (now slots)) × (slotCount (now slots) ≤ 16) × (c < 16384) × (16 * c + 16 ≤ length (now own)) ⌝ }
+    requires { ⌜ (logic .steps ≤ 16) × (x ≤ logic .steps) × (17 ≤ length (now wanted)) × (272 ≤ length (now low)) × (272 ≤ length (now high)) ⌝ }
+    requires { ⌜ ((j : ℕ) → j < slotCount (now slots) → (4 ≤ slotKind (now slots) j) × (slotKind (now slots) j ≤ 5) × (cell (now own) c j ≤ logic .steps)) ⌝ }
+    requires { ⌜ Boxes logic (now slots) (now own) c q (now wanted) (now low) (now high) x ⌝ }
+    ensures { λ _. ⌜ Boxes logic (now (slots .entry)) (now (own .entry)) c q (now (wanted .exit)) (now (low .exit)) (now (high .exit)) (x + 1) ⌝ }
+{
+    let level = wants(logic, slots[4 * q], own[16 * c + q], x);
+    let at = wide(x);
+    wanted[at] = level;
+    if logic.steps < level {
+        return;
+    }
+    if 0 < at {
+        if wanted[at - 1] == level {
+            return;
+        }
+    }
+    make_box(logic, slots, own, c, q, level, low, high);
+}
+
+// Does so for every grade.
+fn make_boxes(
+    logic: Logic,
+    slots: &[u8],
+    own: &[u8],
+    c: usize,
+    q: usize,
+    wanted: &mut [u8],
+    low: &mut [u8],
+    high: &mut [u8],
+)
+    requires { ⌜ (q < slotCount (now slots)) × (slotCount (now slots) ≤ 16) × (c < 16384) × (16 * c + 16 ≤ length (now own)) ⌝ }
+    requires { ⌜ (logic .steps ≤ 16) × (17 ≤ length (now wanted)) × (272 ≤ length (now low)) × (272 ≤ length (now high)) ⌝ }
+    requires { ⌜ ((j : ℕ) → j < slotCount (now slots) → (4 ≤ slotKind (now slots) j) × (slotKind (now slots) j ≤ 5) × (cell (now own) c j ≤ logic .steps)) ⌝ }
+    ensures { λ _. ⌜ Boxes logic (now (slots .entry)) (now (own .entry)) c q (now (wanted .exit)) (now (low .exit)) (now (high .exit)) (logic .steps + 1) ⌝ }
+{
+    let steps = logic.steps;
+    let mut x = 0;
+    while x <= steps {
+        make_box_for(logic, slots, own, c, q, x, wanted, low, high);
+        x += 1;
     }
 }
 
 // ---- the search
 
-// Does row `d` lie in the box of `slots` slots? The first slot outside it decides.
-fn inside(low: &[u8; 16], high: &[u8; 16], slots: usize, child: &[u8], d: usize) -> bool
-    requires { ⌜ (slots ≤ 16) × (d < 16384) × (16 * d + 16 ≤ length (now child)) ⌝ }
-    ensures { λ r. ⌜ Tells r (Inside slots (now (low .entry)) (now (high .entry)) (now (child .entry)) d) ⌝ }
+// Does row `d` lie in the box of its grade at slot `q`, of `slots` slots? The first slot outside it decides.
+fn inside(
+    logic: Logic,
+    wanted: &[u8],
+    low: &[u8],
+    high: &[u8],
+    slots: usize,
+    q: usize,
+    child: &[u8],
+    d: usize,
+) -> bool
+    requires { ⌜ (logic .steps ≤ 16) × (17 ≤ length (now wanted)) × (272 ≤ length (now low)) × (272 ≤ length (now high)) ⌝ }
+    requires { ⌜ (slots ≤ 16) × (q < slots) × (d < 16384) × (16 * d + 16 ≤ length (now child)) × (cell (now child) d q ≤ 16) ⌝ }
+    ensures { λ r. ⌜ Tells r (Inside (logic .steps) slots q (now (wanted .entry)) (now (low .entry)) (now (high .entry)) (now (child .entry)) d) ⌝ }
 {
+    let level = wanted[wide(child[16 * d + q])];
+    if logic.steps < level {
+        return false;
+    }
+    let row = 16 * wide(level);
     let mut j = 0;
     while j < slots {
         let y = child[16 * d + j];
-        if y < low[j] {
+        if y < low[row + j] {
             return false;
         }
-        if high[j] < y {
+        if high[row + j] < y {
             return false;
         }
         j += 1;
@@ -109,32 +172,48 @@ fn inside(low: &[u8; 16], high: &[u8; 16], slots: usize, child: &[u8], d: usize)
     true
 }
 
-// Is `d` marked, with its row in the box?
-fn hit(low: &[u8; 16], high: &[u8; 16], slots: usize, child: &[u8], marks: &[u8], d: usize) -> bool
-    requires { ⌜ (slots ≤ 16) × (d < 16384) × (16 * d + 16 ≤ length (now child)) × (d < length (now marks)) ⌝ }
-    ensures { λ r. ⌜ Tells r (Hit slots (now (low .entry)) (now (high .entry)) (now (child .entry)) (now (marks .entry)) d) ⌝ }
+// Is `d` marked, with its row in its box?
+fn hit(
+    logic: Logic,
+    wanted: &[u8],
+    low: &[u8],
+    high: &[u8],
+    slots: usize,
+    q: usize,
+    child: &[u8],
+    marks: &[u8],
+    d: usize,
+) -> bool
+    requires { ⌜ (logic .steps ≤ 16) × (17 ≤ length (now wanted)) × (272 ≤ length (now low)) × (272 ≤ length (now high)) ⌝ }
+    requires { ⌜ (slots ≤ 16) × (q < slots) × (d < 16384) × (16 * d + 16 ≤ length (now child)) × (cell (now child) d q ≤ 16) × (d < length (now marks)) ⌝ }
+    ensures { λ r. ⌜ Tells r (Hit (logic .steps) slots q (now (wanted .entry)) (now (low .entry)) (now (high .entry)) (now (child .entry)) (now (marks .entry)) d) ⌝ }
 {
     if marks[d] != 1 {
         return false;
     }
-    inside(low, high, slots, child, d)
+    inside(logic, wanted, low, high, slots, q, child, d)
 }
 
 // The first such candidate from `start` on, or a number past the last.
 fn next_hit(
-    low: &[u8; 16],
-    high: &[u8; 16],
+    logic: Logic,
+    wanted: &[u8],
+    low: &[u8],
+    high: &[u8],
     slots: usize,
+    q: usize,
     child: &[u8],
     marks: &[u8],
     start: usize,
 ) -> usize
-    requires { ⌜ (slots ≤ 16) × (length (now marks) ≤ 16384) × (16 * length (now marks) ≤ length (now child)) ⌝ }
-    ensures { λ r. ⌜ NextHit slots (now (low .entry)) (now (high .entry)) (now (child .entry)) (now (marks .entry)) start r ⌝ }
+    requires { ⌜ (logic .steps ≤ 16) × (17 ≤ length (now wanted)) × (272 ≤ length (now low)) × (272 ≤ length (now high)) ⌝ }
+    requires { ⌜ (slots ≤ 16) × (q < slots) × (length (now marks) ≤ 16384) × (16 * length (now marks) ≤ length (now child)) ⌝ }
+    requires { ⌜ ((d : ℕ) → d < length (now marks) → cell (now child) d q ≤ 16) ⌝ }
+    ensures { λ r. ⌜ NextHit (logic .steps) slots q (now (wanted .entry)) (now (low .entry)) (now (high .entry)) (now (child .entry)) (now (marks .entry)) start r ⌝ }
 {
     let mut d = start;
     while d < marks.len() {
-        if hit(low, high, slots, child, marks, d) {
+        if hit(logic, wanted, low, high, slots, q, child, marks, d) {
             return d;
         }
         d += 1;
@@ -144,7 +223,7 @@ fn next_hit(
 
 // The first marked witness of slot `q` of candidate `c` from `start` on, or a number past the last candidate.
 fn next_witness(
-    steps: u8,
+    logic: Logic,
     slots: &[u8],
     own: &[u8],
     child: &[u8],
@@ -153,14 +232,25 @@ fn next_witness(
     q: usize,
     start: usize,
 ) -> usize
-    requires { ⌜ Ready (tables steps (length (now marks)) (now slots) (now own) (now child)) ⌝ }
+    requires { ⌜ Ready (tables logic (length (now marks)) (now slots) (now own) (now child)) ⌝ }
     requires { ⌜ (length (now marks) ≤ 16384) × (c < length (now marks)) × (q < slotCount (now slots)) ⌝ }
-    ensures { λ r. ⌜ NextWitness (tables steps (length (now (marks .entry))) (now (slots .entry)) (now (own .entry)) (now (child .entry))) (now (marks .entry)) c q start r ⌝ }
+    ensures { λ r. ⌜ NextWitness (tables logic (length (now (marks .entry))) (now (slots .entry)) (now (own .entry)) (now (child .entry))) (now (marks .entry)) c q start r ⌝ }
 {
-    let mut low = [0u8; 16];
-    let mut high = [0u8; 16];
-    make_box(steps, slots, own, c, q, &mut low, &mut high);
-    next_hit(&low, &high, slots.len() / 4, child, marks, start)
+    let mut wanted = [0u8; 17];
+    let mut low = [0u8; 272];
+    let mut high = [0u8; 272];
+    make_boxes(logic, slots, own, c, q, &mut wanted, &mut low, &mut high);
+    next_hit(
+        logic,
+        &wanted,
+        &low,
+        &high,
+        slots.len() / 4,
+        q,
+        child,
+        marks,
+        start,
+    )
 }
 
 // ---- one candidate
@@ -178,7 +268,7 @@ fn still_marked(marks: &[u8], known: usize) -> bool
 
 // Has slot `q` of candidate `c` a marked witness? A remembered one that is still marked is not sought again; else the search goes on from there.
 fn backed(
-    steps: u8,
+    logic: Logic,
     slots: &[u8],
     own: &[u8],
     child: &[u8],
@@ -187,18 +277,18 @@ fn backed(
     c: usize,
     q: usize,
 ) -> bool
-    requires { ⌜ Ready (tables steps (length (now marks)) (now slots) (now own) (now child)) ⌝ }
+    requires { ⌜ Ready (tables logic (length (now marks)) (now slots) (now own) (now child)) ⌝ }
     requires { ⌜ (length (now marks) ≤ 16384) × (c < length (now marks)) × (q < slotCount (now slots)) × (16 * length (now marks) ≤ length (now memory)) ⌝ }
-    requires { ⌜ Remembers (tables steps (length (now marks)) (now slots) (now own) (now child)) (now marks) (now memory) ⌝ }
-    ensures { λ r. ⌜ Tells r (Backed (tables steps (length (now (marks .entry))) (now (slots .entry)) (now (own .entry)) (now (child .entry))) (now (marks .entry)) c q) ⌝ }
-    ensures { λ r. ⌜ Remembers (tables steps (length (now (marks .entry))) (now (slots .entry)) (now (own .entry)) (now (child .entry))) (now (marks .entry)) (now (memory .exit)) ⌝ }
+    requires { ⌜ Remembers (tables logic (length (now marks)) (now slots) (now own) (now child)) (now marks) (now memory) ⌝ }
+    ensures { λ r. ⌜ Tells r (Backed (tables logic (length (now (marks .entry))) (now (slots .entry)) (now (own .entry)) (now (child .entry))) (now (marks .entry)) c q) ⌝ }
+    ensures { λ r. ⌜ Remembers (tables logic (length (now (marks .entry))) (now (slots .entry)) (now (own .entry)) (now (child .entry))) (now (marks .entry)) (now (memory .exit)) ⌝ }
 {
     let at = 16 * c + q;
     let known = memory[at] as usize;
     if still_marked(marks, known) {
         return true;
     }
-    let w = next_witness(steps, slots, own, child, marks, c, q, known);
+    let w = next_witness(logic, slots, own, child, marks, c, q, known);
     if w >= marks.len() {
         return false;
     }
@@ -208,7 +298,7 @@ fn backed(
 
 // Has each slot of candidate `c` a marked witness? Moves its remembered witnesses forward.
 pub fn supported(
-    steps: u8,
+    logic: Logic,
     slots: &[u8],
     own: &[u8],
     child: &[u8],
@@ -216,16 +306,16 @@ pub fn supported(
     memory: &mut [u16],
     c: usize,
 ) -> bool
-    requires { ⌜ Ready (tables steps (length (now marks)) (now slots) (now own) (now child)) ⌝ }
+    requires { ⌜ Ready (tables logic (length (now marks)) (now slots) (now own) (now child)) ⌝ }
     requires { ⌜ (length (now marks) ≤ 16384) × (c < length (now marks)) × (16 * length (now marks) ≤ length (now memory)) ⌝ }
-    requires { ⌜ Remembers (tables steps (length (now marks)) (now slots) (now own) (now child)) (now marks) (now memory) ⌝ }
-    ensures { λ r. ⌜ Tells r (Supported (tables steps (length (now (marks .entry))) (now (slots .entry)) (now (own .entry)) (now (child .entry))) (now (marks .entry)) c) ⌝ }
-    ensures { λ r. ⌜ Remembers (tables steps (length (now (marks .entry))) (now (slots .entry)) (now (own .entry)) (now (child .entry))) (now (marks .entry)) (now (memory .exit)) ⌝ }
+    requires { ⌜ Remembers (tables logic (length (now marks)) (now slots) (now own) (now child)) (now marks) (now memory) ⌝ }
+    ensures { λ r. ⌜ Tells r (Supported (tables logic (length (now (marks .entry))) (now (slots .entry)) (now (own .entry)) (now (child .entry))) (now (marks .entry)) c) ⌝ }
+    ensures { λ r. ⌜ Remembers (tables logic (length (now (marks .entry))) (now (slots .entry)) (now (own .entry)) (now (child .entry))) (now (marks .entry)) (now (memory .exit)) ⌝ }
 {
     let count = slots.len() / 4;
     let mut q = 0;
     while q < count {
-        if !backed(steps, slots, own, child, marks, memory, c, q) {
+        if !backed(logic, slots, own, child, marks, memory, c, q) {
             return false;
         }
         q += 1;

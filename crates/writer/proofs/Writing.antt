@@ -11,12 +11,16 @@ use lib.Seq.{take-at}
 use Rattle.chain.specs.Lists.{index}
 use Rattle.chain.specs.Questions.{firstNo}
 use Rattle.chain.proofs.Questions.{first-empty, first-yes, first-no, first-none, first-some-append, first-none-append, first-both}
+use Rattle.semantics.specs.Interpretations.{Grading}
 use Rattle.semantics.specs.Books.{Book, Valid, nameCount, roleCount, individuals, RuleModel, MeetsClaims}
+use Rattle.sections.specs.Terms.{termsOf}
+use Rattle.gradings.specs.Gradings.{grading}
+use Rattle.gradings.specs.declared.Logic.{Logic}
 use Rattle.book.specs.Layout.{termBytes}
 use Rattle.book.specs.Reading.{bookOf}
 use Rattle.book.specs.Opening.{bookQuestions, candidateQuestions, Right}
 use Rattle.book.specs.declared.Sections.{Sections}
-use Rattle.book.proofs.Reading.{right-book, right-names, right-roles, right-individuals}
+use Rattle.book.proofs.Reading.{right-counts, right-names, right-roles, right-individuals}
 use Rattle.sheets.specs.Layout.{endAt}
 use Rattle.sheets.specs.Writing.{shapeFor, sheetBytes}
 use Rattle.sheets.specs.declared.Shape.{Shape}
@@ -165,9 +169,9 @@ module _ (B : Book) (p : Shape) (n : p .elements ≡ length (survivorsOf B)) (a 
   end-model = rw (n, a, r, i) (sym (model-length B))
 
 -- the sheet that is written ends where the shape does
-pub end-same : (N : ℕ) (s : List ℕ) (p : Shape) (types seats : List ℕ) → length types ≡ p .elements → length seats ≡ p .individuals
-    → endAt (shapeFor N (p .names) (p .roles) (length seats) (modelOf N s types seats)) ≡ endAt p
-end-same N s p types seats e f = rw (e, f)
+pub end-same : (N : ℕ) (lg : Logic) (s : List ℕ) (p : Shape) (types seats : List ℕ) → length types ≡ p .elements → length seats ≡ p .individuals
+    → endAt (shapeFor N (p .names) (p .roles) (length seats) (modelOf lg s types seats)) ≡ endAt p
+end-same N lg s p types seats e f = rw (e, f)
 
 module _ (b : List ℕ) (s : Sections) (ok : Right b s) where
   -- the counts are small, so an index can say where the sheet ends
@@ -175,14 +179,15 @@ module _ (b : List ℕ) (s : Sections) (ok : Right b s) where
       → p .individuals ≡ individuals (bookOf b) → endAt p ≤ 33812
   shape-few p n a r i = few-end p n (omega (arith, right-names b s ok)) (omega (arith, right-roles b s ok)) (omega (arith, right-individuals b s ok))
 
-  pub model-of : (types seats : List ℕ) (A R : ℕ) → types ≡ survivorsOf (bookOf b) → placement (bookOf b) ≡ some seats
-      → A ≡ nameCount (bookOf b) → R ≡ roleCount (bookOf b)
-      → sheetBytes (s .steps) A R (length seats) (modelOf (s .steps) (termBytes b s) types seats) ≡ modelBytes (bookOf b)
-  model-of types seats A R e f g h =
+  -- what is written by a logic that stands for the book's grading
+  pub model-of : (lg : Logic) → grading lg (termsOf (termBytes b s)) ≡ bookOf b .grading → (terms types seats : List ℕ) (A R : ℕ) → terms ≡ termBytes b s
+      → types ≡ survivorsOf (bookOf b) → placement (bookOf b) ≡ some seats → A ≡ nameCount (bookOf b) → R ≡ roleCount (bookOf b)
+      → sheetBytes (s .steps) A R (length seats) (modelOf lg terms types seats) ≡ modelBytes (bookOf b)
+  model-of lg z terms types seats A R t e f g h =
       let B = bookOf b in
-      rw (g, h, e, placement-first B seats f .drawn .0)
-      (ap (λ (C : Book). sheetBytes (C .grading .steps) (nameCount B) (roleCount B) (individuals B)
-      (typesIn (C .grading) (survivorsOf B) (λ j. index (survivorsOf B) (seat seats j)))) (right-book b s ok)
+      rw (t, g, h, e, placement-first B seats f .drawn .0, ← right-counts b s ok .0)
+      (ap (λ (G : Grading). sheetBytes (B .grading .steps) (nameCount B) (roleCount B) (individuals B)
+      (typesIn G (survivorsOf B) (λ j. index (survivorsOf B) (seat seats j)))) z
       ∙ sym (model-bytes B seats f))
 
 -- the seats, where the outcome is 1

@@ -6,11 +6,10 @@ ghost use Prim.Native.Nat.{_<_, _≤_};
 ghost use lib.ListN.{length, take, drop};
 ghost use Rattle.chain.specs.Questions.{firstNo};
 ghost use Rattle.semantics.specs.Books.{nameCount, roleCount, individuals as individualsOf};
-ghost use Rattle.semantics.specs.Candidates.{candidates};
 ghost use Rattle.book.specs.Opening.{Right, countedOf};
 ghost use Rattle.book.specs.Reading.{bookOf};
 ghost use Rattle.book.specs.declared.Counted.the-variants.{Candidates};
-ghost use Rattle.sheets.specs.Layout.{endAt, Indexable};
+ghost use Rattle.sheets.specs.Layout.{endAt};
 ghost use Rattle.elimination.specs.Marks.{marked};
 ghost use Rattle.placement.specs.Outcome.{survivorsOf, outcome as outcomeOf, placement as placementOf};
 ghost use Rattle.decider.specs.Deciding.{marksAfter, placementAfter, HoldsPlacement};
@@ -32,16 +31,12 @@ fn shape_in(b: &[u8], s: Sections, elements: usize) -> Shape
     requires { ⌜ Right (now b) s ⌝ }
     ensures { λ r. ⌜ (r .elements ≡ elements) × (r .names ≡ nameCount (bookOf (now (b .entry)))) × (r .roles ≡ roleCount (bookOf (now (b .entry)))) × (r .individuals ≡ individualsOf (bookOf (now (b .entry)))) ⌝ }
 {
-    let terms = s.terms;
-    let rules = s.rules;
-    let memberships = s.memberships;
-    let links = s.links;
-    let end = s.end;
+    let counts = book::counts_in(b, s);
     Shape {
         elements,
-        names: counts::count_names(&b[terms..rules]),
-        roles: counts::count_roles(&b[terms..rules], &b[links..end]),
-        individuals: counts::count_individuals(&b[memberships..links], &b[links..end]),
+        names: counts.names,
+        roles: counts.roles,
+        individuals: counts.individuals,
     }
 }
 
@@ -61,13 +56,12 @@ fn write_marked(
     requires { ⌜ (p .elements ≤ 64) × (8 ≤ length (now seats)) × (placementOf (bookOf (now b)) ≡ some (take (p .individuals) (now seats))) × (endAt p ≤ length (now sheet)) ⌝ }
     ensures { λ _. ⌜ now (sheet .exit) ≡ modelBytes (bookOf (now (b .entry))) ++ drop (endAt p) (now (sheet .entry)) ⌝ }
 {
-    let terms = s.terms;
-    let rules = s.rules;
     let individuals = p.individuals;
     let mut types = [0u16; 64];
     let n = models::list_marked(marks, count, &mut types);
     models::write_model(
-        &b[terms..rules],
+        book::terms_in(b, s),
+        book::logic_in(b, s),
         s.steps,
         p.names,
         p.roles,

@@ -13,10 +13,12 @@ use Rattle.arcs.proofs.bound_sources.Statement.{statement}
 use Rattle.arcs.proofs.bound_sources.Tie as tie
 
 abbrev Inv-loop : tie.InvT-loop
-Inv-loop steps s terms target bounds₀ start count m₀ y₀ bounds m y = (length bounds ≡ length bounds₀) × (y ≤ constraintCount s) × (m ≤ start + y) × Narrowed steps terms (λ v. (z : ℕ) → z < y → Met steps (constraintAt s z) v target) bounds₀ start bounds m
+Inv-loop logic s terms target bounds₀ start count m₀ y₀ bounds m y =
+    (length bounds ≡ length bounds₀) × (y ≤ constraintCount s) × (m ≤ start + y)
+    × Narrowed logic terms (λ v. (z : ℕ) → z < y → Met logic (constraintAt s z) v target) bounds₀ start bounds m
 
 abbrev μ-loop : tie.MeasureT-loop
-μ-loop steps s terms target bounds₀ start count m₀ y₀ bounds m y = constraintCount s - y
+μ-loop logic s terms target bounds₀ start count m₀ y₀ bounds m y = constraintCount s - y
 
 loop-holds : tie.Need-loop-holds Inv-loop μ-loop
 loop-holds c =
@@ -32,7 +34,7 @@ bound-source-requires c κs =
     let s = c .before .before .before .before .before .before in
     let a = s .args in
     let l = c .before .before .loop in
-    (subst (λ (k : Constraint). Right (a .steps) (a .terms) k) (sym (c .constraint-at .ensures)) (s .pre .0 (l .y) (omega (arith, c .before .loop-test .taken))), s .pre .1)
+    (subst (λ (k : Constraint). Right (a .logic) (a .terms) k) (sym (c .constraint-at .ensures)) (s .pre .0 (l .y) (omega (arith, c .before .loop-test .taken))), s .pre .1)
 
 put-bound-requires : tie.Need-put-bound-requires Inv-loop μ-loop
 put-bound-requires c κs =
@@ -52,11 +54,15 @@ loop-again c =
     let s = c .before .before .before .before .before .before .before .before .before .before .before in
     let a = s .args in
     let l = c .before .before .before .before .before .before .before .loop in
-    let t = c .before .before .put-bound in (
+    let t = c .before .before .put-bound in
+    let b = c .before .before .before .before .bound-source in (
       t .kept .1 .1 .1 .0 ∙ l .inv .0,
       omega (arith, c .before .before .before .before .before .before .loop-test .taken),
       omega (arith, t .ensures .1, l .inv .2),
-      narrowed-more (a .steps) (a .terms) (λ z v. Met (a .steps) (constraintAt (a .s .now) z) v (a .target .now)) (l .y) (c .before .before .before .before .bound-source .result) (a .bounds .now) (a .start) (l .bounds) (l .m) _ (t .result) (subst (λ (k : Constraint). Asks (a .steps) (a .terms) (λ v. Met (a .steps) k v (a .target .now)) (c .before .before .before .before .bound-source .result)) (c .before .before .before .before .before .constraint-at .ensures) (c .before .before .before .before .bound-source .ensures)) (l .inv .3) (t .ensures .0),
+      narrowed-more (a .logic) (a .terms) (λ z v. Met (a .logic) (constraintAt (a .s .now) z) v (a .target .now)) (l .y)
+          (b .result) (a .bounds .now) (a .start) (l .bounds) (l .m) _ (t .result)
+          (subst (λ (k : Constraint). Asks (a .logic) (a .terms) (λ v. Met (a .logic) k v (a .target .now)) (b .result)) (c .before .before .before .before .before .constraint-at .ensures) (b .ensures))
+          (l .inv .3) (t .ensures .0),
     )
 
 same-length : tie.Need-same-length Inv-loop μ-loop
@@ -68,7 +74,7 @@ returns c =
     let a = s .args in
     let l = c .before .loop in
     let e : l .y ≡ constraintCount (a .s .now) = omega (arith, l .inv .1, c .loop-test .left) in
-    (subst (λ (x : ℕ). Narrowed (a .steps) (a .terms) (λ v. (z : ℕ) → z < x → Met (a .steps) (constraintAt (a .s .now) z) v (a .target .now)) (a .bounds .now) (a .start) (l .bounds) (l .m)) e (l .inv .3), omega (arith, l .inv .2))
+    (subst (λ (x : ℕ). Narrowed (a .logic) (a .terms) (λ v. (z : ℕ) → z < x → Met (a .logic) (constraintAt (a .s .now) z) v (a .target .now)) (a .bounds .now) (a .start) (l .bounds) (l .m)) e (l .inv .3), omega (arith, l .inv .2))
 
 pub bound-sources-spec : {M : Type 1} → statement M
 bound-sources-spec =

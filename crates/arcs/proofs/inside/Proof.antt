@@ -79,7 +79,9 @@ loop-again c =
     let a = s .args in
     let g = ap (λ (z : ℕ). getD (a .row .now) z 0) (c .before .before .before .before .before .wide .ensures .0) in (
       omega (arith, c .before .before .before .before .before .before .before .loop-test .taken),
-      below-more (λ z. Within (boundAt (a .bounds .now) z) (a .row .now)) (c .before .before .before .before .before .before .before .before .loop .x) (c .before .before .before .before .before .before .before .before .loop .inv .1) (omega (arith, g, c .before .before .if1 .left), omega (arith, g, c .if2 .left)),
+      below-more (λ z. Within (boundAt (a .bounds .now) z) (a .row .now)) (c .before .before .before .before .before .before .before .before .loop .x)
+          (c .before .before .before .before .before .before .before .before .loop .inv .1)
+          (omega (arith, g, c .before .before .if1 .left), omega (arith, g, c .if2 .left)),
     )
 
 returns-3 : tie.Need-returns-3 Inv-loop μ-loop

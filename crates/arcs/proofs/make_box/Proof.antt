@@ -10,7 +10,7 @@ bound-targets-requires : tie.Need-bound-targets-requires
 bound-targets-requires c κs =
     let s = c .before .before .before .before .before in
     let a = s .args in
-    (s .pre .0 .0, s .pre .0 .2, omega (arith, s .pre .1 .0, s .pre .1 .2))
+    (s .pre .0 .0, s .pre .0 .2, s .pre .0 .3, omega (arith, s .pre .1 .0, s .pre .1 .2))
 
 bound-sources-requires : tie.Need-bound-sources-requires
 bound-sources-requires c κs =
@@ -28,7 +28,7 @@ returns c =
     let a = s .args in
     let t = c .before .before .before .before .before .before .bound-targets in
     let u = c .before .before .bound-sources in
-    (narrowed-then (a .steps) (a .terms) _ _ (a .bounds .now) 0 _ (t .result) _ (u .result) (t .ensures .0) (u .ensures .0), omega (arith, s .pre .1, t .ensures .1, u .ensures .1))
+    (narrowed-then (a .logic) (a .terms) _ _ (a .bounds .now) 0 _ (t .result) _ (u .result) (t .ensures .0) (u .ensures .0), omega (arith, s .pre .1, t .ensures .1, u .ensures .1))
 
 pub make-box-spec : {M : Type 1} → statement M
 make-box-spec =

@@ -10,9 +10,9 @@ use Rattle.arcs.proofs.put_bound.Tie as tie
 
 returns : tie.Need-returns
 returns c =
-    let s = c .before .before .before .before in
+    let s = c .before .before .before .before .before in
     let a = s .args in
-    (narrowed-all (a .steps) (a .terms) (a .bounds .now) (a .m) (a .b) (s .pre .0) (c .before .before .if1 .taken) (c .if2 .taken), omega arith)
+    (narrowed-all (a .logic) (a .terms) (a .bounds .now) (a .m) (a .b) (s .pre .0) (c .before .before .before .if1 .taken) (c .if2 .taken), omega arith)
 
 mul-bounds : tie.Need-mul-bounds
 mul-bounds c = search needs
@@ -51,7 +51,7 @@ returns-2 : tie.Need-returns-2
 returns-2 c =
     let s = c .before .before in
     let a = s .args in
-    (narrowed-one (a .bounds .now) (a .m) (a .b) (a .steps) (a .terms) (s .pre .0) (s .pre .1), omega arith)
+    (narrowed-one (a .bounds .now) (a .m) (a .b) (a .logic) (a .terms) (s .pre .0) (s .pre .1), omega arith)
 
 pub put-bound-spec : {M : Type 1} → statement M
 put-bound-spec =

@@ -13,18 +13,18 @@ use Rattle.arcs.proofs.revise.Statement.{statement}
 use Rattle.arcs.proofs.revise.Tie as tie
 
 abbrev Inv-loop : tie.InvT-loop
-Inv-loop steps forth back terms count individuals rows table₀ bounds₀ j i changed₀ hint₀ next₀ table bounds changed hint next =
+Inv-loop logic forth back terms count individuals rows table₀ bounds₀ j i changed₀ hint₀ next₀ table bounds changed hint next =
     (length table ≡ length table₀) × (length bounds ≡ length bounds₀) × (hint ≤ count) × Gaps table individuals count
-    × RevisedBy steps forth back count rows j i next changed table₀ table
+    × RevisedBy logic forth back count rows j i next changed table₀ table
 
 abbrev μ-loop : tie.MeasureT-loop
-μ-loop steps forth back terms count individuals rows table₀ bounds₀ j i changed₀ hint₀ next₀ table bounds changed hint next = count - next
+μ-loop logic forth back terms count individuals rows table₀ bounds₀ j i changed₀ hint₀ next₀ table bounds changed hint next = count - next
 
 loop-holds : tie.Need-loop-holds Inv-loop μ-loop
 loop-holds c =
     let s = c .before .before .before .before .before in
     let a = s .args in
-    (refl, refl, omega arith, s .pre .1 .1 .3, revised-start (a .steps) (a .forth .now) (a .back .now) (a .count) (a .rows .now) (a .j) (a .i) (a .table .now))
+    (refl, refl, omega arith, s .pre .1 .1 .3, revised-start (a .logic) (a .forth .now) (a .back .now) (a .count) (a .rows .now) (a .j) (a .i) (a .table .now))
 
 leap-requires : tie.Need-leap-requires Inv-loop μ-loop
 leap-requires c κs =
@@ -48,7 +48,7 @@ loop-again c =
       l .inv .1,
       l .inv .2,
       l .inv .3,
-      revised-leap (a .steps) (a .forth .now) (a .back .now) (a .count) (a .rows .now) (a .j) (a .i) (l .next) (l .changed) (a .table .now) (l .table) (l .inv .4) (c .before .leap .result) (c .before .leap .ensures .1),
+      revised-leap (a .logic) (a .forth .now) (a .back .now) (a .count) (a .rows .now) (a .j) (a .i) (l .next) (l .changed) (a .table .now) (l .table) (l .inv .4) (c .before .leap .result) (c .before .leap .ensures .1),
     )
 
 add-next-2 : tie.Need-add-next-2 Inv-loop μ-loop
@@ -59,9 +59,12 @@ support-requires c κs =
     let s = c .before .before .before .before .before .before .before .before .before .before .before .before in
     let a = s .args in
     let l = c .before .before .before .before .before .before .loop in
-    let p = s .pre .1 .0 in (
+    let p = s .pre .1 .0 in
+    let lt = c .before .before .before .before .before .loop-test .taken in
+    let g = graded-fewer (a .logic) (a .terms) (a .count) (a .individuals) (a .rows .now) (a .table .now) (l .table) (l .inv .4 .fewer) (s .pre .1 .1 .4) in
+    let on = g (a .j) (l .next) (p .0) lt (c .before .before .before .leap .ensures .0 (omega (arith, c .before .before .if1 .left))) in (
       s .pre .0,
-      ((p .1, p .2, c .before .before .before .before .before .loop-test .taken, l .inv .2, p .4), (omega (arith, l .inv .0, s .pre .1 .1 .0), s .pre .1 .1 .1, omega (arith, l .inv .1, s .pre .1 .1 .2), l .inv .3, graded-fewer (a .steps) (a .terms) (a .count) (a .individuals) (a .rows .now) (a .table .now) (l .table) (l .inv .4 .fewer) (s .pre .1 .1 .4))),
+      ((p .1, p .2, lt, l .inv .2, p .4, on), (omega (arith, l .inv .0, s .pre .1 .1 .0), s .pre .1 .1 .1, omega (arith, l .inv .1, s .pre .1 .1 .2), l .inv .3, g)),
     )
 
 loop-less-2 : tie.Need-loop-less-2 Inv-loop μ-loop
@@ -77,7 +80,7 @@ loop-again-2 c =
       t .kept .1 .1 .1 .1 .1 .1 .1 .1 .0 ∙ l .inv .1,
       omega (arith, c .if2 .taken),
       l .inv .3,
-      revised-kept (a .steps) (a .forth .now) (a .back .now) (a .count) (a .rows .now) (a .j) (a .i) (l .next) (l .changed) (a .table .now) (l .table) (l .inv .4) (t .ensures .found (c .if2 .taken)),
+      revised-kept (a .logic) (a .forth .now) (a .back .now) (a .count) (a .rows .now) (a .j) (a .i) (l .next) (l .changed) (a .table .now) (l .table) (l .inv .4) (t .ensures .found (c .if2 .taken)),
     )
 
 mul-table : tie.Need-mul-table Inv-loop μ-loop
@@ -107,7 +110,11 @@ loop-again-3 c =
       t .kept .1 .1 .1 .1 .1 .1 .1 .1 .0 ∙ l .inv .1,
       l .inv .2,
       gaps-set (l .table) (a .individuals) (a .count) (a .j) (l .next) (l .inv .3),
-      revised-taken (a .steps) (a .forth .now) (a .back .now) (a .count) (a .rows .now) (a .j) (a .i) (l .next) (l .changed) (a .table .now) (l .table) (l .inv .4) (p .4) (p .3) (c .before .before .before .before .before .before .before .before .before .loop-test .taken) (omega (arith, c .before .before .before .before .before .before .before .before .before .loop-test .taken, p)) (omega (arith, l .inv .0, s .pre .1 .1 .0)) (c .before .before .before .before .before .before .before .leap .ensures .0 (omega (arith, c .before .before .before .before .before .before .if1 .left))) (t .ensures .none (omega (arith, c .if2 .left))),
+      revised-taken (a .logic) (a .forth .now) (a .back .now) (a .count) (a .rows .now) (a .j) (a .i) (l .next) (l .changed) (a .table .now) (l .table) (l .inv .4) (p .4)
+          (p .3) (c .before .before .before .before .before .before .before .before .before .loop-test .taken)
+          (omega (arith, c .before .before .before .before .before .before .before .before .before .loop-test .taken, p)) (omega (arith, l .inv .0, s .pre .1 .1 .0))
+          (c .before .before .before .before .before .before .before .leap .ensures .0 (omega (arith, c .before .before .before .before .before .before .if1 .left)))
+          (t .ensures .none (omega (arith, c .if2 .left))),
     )
 
 same-length : tie.Need-same-length Inv-loop μ-loop
@@ -121,7 +128,7 @@ returns c =
     let s = c .before .before .before .before .before .before .before in
     let a = s .args in
     let l = c .before .loop in
-    (revised-below (a .steps) (a .forth .now) (a .back .now) (a .count) (a .rows .now) (a .j) (a .i) (l .next) (l .changed) (a .table .now) (l .table) (l .inv .4) (a .count) (omega (arith, c .loop-test .left)), l .inv .3)
+    (revised-below (a .logic) (a .forth .now) (a .back .now) (a .count) (a .rows .now) (a .j) (a .i) (l .next) (l .changed) (a .table .now) (l .table) (l .inv .4) (a .count) (omega (arith, c .loop-test .left)), l .inv .3)
 
 pub revise-spec : {M : Type 1} → statement M
 revise-spec =

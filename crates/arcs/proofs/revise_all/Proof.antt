@@ -15,12 +15,12 @@ use Rattle.arcs.proofs.revise_all.Statement.{statement}
 use Rattle.arcs.proofs.revise_all.Tie as tie
 
 abbrev Inv-loop : tie.InvT-loop
-Inv-loop steps net ends terms count individuals rows table₀ bounds₀ j changed₀ next₀ table bounds changed next =
+Inv-loop logic net ends terms count individuals rows table₀ bounds₀ j changed₀ next₀ table bounds changed next =
     (length table ≡ length table₀) × (length bounds ≡ length bounds₀) × Gaps table individuals count
-    × Revised steps net ends count rows individuals (SupportedTo steps net ends count rows j next) changed table₀ table
+    × Revised logic net ends count rows individuals (SupportedTo logic net ends count rows j next) changed table₀ table
 
 abbrev μ-loop : tie.MeasureT-loop
-μ-loop steps net ends terms count individuals rows table₀ bounds₀ j changed₀ next₀ table bounds changed next = individuals - next
+μ-loop logic net ends terms count individuals rows table₀ bounds₀ j changed₀ next₀ table bounds changed next = individuals - next
 
 loop-holds : tie.Need-loop-holds Inv-loop μ-loop
 loop-holds c =
@@ -29,7 +29,7 @@ loop-holds c =
       refl,
       refl,
       s .pre .1 .1 .0,
-      revised-none (a .steps) (a .net .now) (a .ends .now) (a .count) (a .rows .now) (a .individuals) (SupportedTo (a .steps) (a .net .now) (a .ends .now) (a .count) (a .rows .now) (a .j) 0) (a .table .now) (λ i l. absurd (omega arith)),
+      revised-none (a .logic) (a .net .now) (a .ends .now) (a .count) (a .rows .now) (a .individuals) (SupportedTo (a .logic) (a .net .now) (a .ends .now) (a .count) (a .rows .now) (a .j) 0) (a .table .now) (λ i l. absurd (omega arith)),
     )
 
 add-next : tie.Need-add-next Inv-loop μ-loop
@@ -46,7 +46,11 @@ loop-again c =
       l .inv .0,
       l .inv .1,
       l .inv .2,
-      revised-map (a .steps) (a .net .now) (a .ends .now) (a .count) (a .rows .now) (a .individuals) (SupportedTo (a .steps) (a .net .now) (a .ends .now) (a .count) (a .rows .now) (a .j) (l .next)) (SupportedTo (a .steps) (a .net .now) (a .ends .now) (a .count) (a .rows .now) (a .j) (l .next + 1)) (l .changed) (a .table .now) (l .table) (λ f. below-more (λ x. ¬ (x ≡ a .j) → SupportedBy (a .steps) (a .net .now) (a .ends .now) (a .count) (a .rows .now) (a .j) x (a .table .now)) (l .next) f (λ n. absurd (n (c .if1 .taken)))) (l .inv .3),
+      revised-map (a .logic) (a .net .now) (a .ends .now) (a .count) (a .rows .now) (a .individuals)
+          (SupportedTo (a .logic) (a .net .now) (a .ends .now) (a .count) (a .rows .now) (a .j) (l .next))
+          (SupportedTo (a .logic) (a .net .now) (a .ends .now) (a .count) (a .rows .now) (a .j) (l .next + 1)) (l .changed) (a .table .now) (l .table)
+          (λ f. below-more (λ x. ¬ (x ≡ a .j) → SupportedBy (a .logic) (a .net .now) (a .ends .now) (a .count) (a .rows .now) (a .j) x (a .table .now)) (l .next) f (λ n. absurd (n (c .if1 .taken))))
+          (l .inv .3),
     )
 
 revise-by-requires : tie.Need-revise-by-requires Inv-loop μ-loop
@@ -54,9 +58,10 @@ revise-by-requires c κs =
     let s = c .before .before .before .before .before .before .before .before .before .before in
     let a = s .args in
     let l = c .before .before .before .before .loop in
-    let p = s .pre .1 .0 in (
+    let p = s .pre .1 .0 in
+    let g = graded-fewer (a .logic) (a .terms) (a .count) (a .individuals) (a .rows .now) (a .table .now) (l .table) (l .inv .3 .pruned .fewer) (s .pre .1 .1 .1) in (
       s .pre .0,
-      ((p .0, c .before .before .before .loop-test .taken, c .before .before .if1 .left, omega (arith, l .inv .0, p .1), omega (arith, l .inv .1, p .2)), (l .inv .2, graded-fewer (a .steps) (a .terms) (a .count) (a .individuals) (a .rows .now) (a .table .now) (l .table) (l .inv .3 .pruned .fewer) (s .pre .1 .1 .1))),
+      ((p .0, c .before .before .before .loop-test .taken, c .before .before .if1 .left, omega (arith, l .inv .0, p .1), omega (arith, l .inv .1, p .2)), (l .inv .2, g)),
     )
 
 loop-less-2 : tie.Need-loop-less-2 Inv-loop μ-loop
@@ -71,7 +76,13 @@ loop-again-2 c =
       t .kept .1 .1 .1 .1 .1 .1 .1 .0 ∙ l .inv .0,
       t .kept .1 .1 .1 .1 .1 .1 .1 .1 .0 ∙ l .inv .1,
       t .ensures .1,
-      revised-next (a .steps) (a .net .now) (a .ends .now) (a .count) (a .rows .now) (a .individuals) (SupportedTo (a .steps) (a .net .now) (a .ends .now) (a .count) (a .rows .now) (a .j) (l .next)) (SupportedBy (a .steps) (a .net .now) (a .ends .now) (a .count) (a .rows .now) (a .j) (l .next)) (SupportedTo (a .steps) (a .net .now) (a .ends .now) (a .count) (a .rows .now) (a .j) (l .next + 1)) (a .table .now) (l .table) _ (l .changed) (t .result) (l .inv .3) (t .ensures .0) true (λ z f r. below-more (λ x. ¬ (x ≡ a .j) → SupportedBy (a .steps) (a .net .now) (a .ends .now) (a .count) (a .rows .now) (a .j) x z) (l .next) f (λ _. r)) (inl (c .if2 .taken, refl)),
+      revised-next (a .logic) (a .net .now) (a .ends .now) (a .count) (a .rows .now) (a .individuals)
+          (SupportedTo (a .logic) (a .net .now) (a .ends .now) (a .count) (a .rows .now) (a .j) (l .next))
+          (SupportedBy (a .logic) (a .net .now) (a .ends .now) (a .count) (a .rows .now) (a .j) (l .next))
+          (SupportedTo (a .logic) (a .net .now) (a .ends .now) (a .count) (a .rows .now) (a .j) (l .next + 1)) (a .table .now) (l .table) _ (l .changed) (t .result)
+          (l .inv .3) (t .ensures .0) true
+          (λ z f r. below-more (λ x. ¬ (x ≡ a .j) → SupportedBy (a .logic) (a .net .now) (a .ends .now) (a .count) (a .rows .now) (a .j) x z) (l .next) f (λ _. r))
+          (inl (c .if2 .taken, refl)),
     )
 
 loop-less-3 : tie.Need-loop-less-3 Inv-loop μ-loop
@@ -86,7 +97,13 @@ loop-again-3 c =
       t .kept .1 .1 .1 .1 .1 .1 .1 .0 ∙ l .inv .0,
       t .kept .1 .1 .1 .1 .1 .1 .1 .1 .0 ∙ l .inv .1,
       t .ensures .1,
-      revised-next (a .steps) (a .net .now) (a .ends .now) (a .count) (a .rows .now) (a .individuals) (SupportedTo (a .steps) (a .net .now) (a .ends .now) (a .count) (a .rows .now) (a .j) (l .next)) (SupportedBy (a .steps) (a .net .now) (a .ends .now) (a .count) (a .rows .now) (a .j) (l .next)) (SupportedTo (a .steps) (a .net .now) (a .ends .now) (a .count) (a .rows .now) (a .j) (l .next + 1)) (a .table .now) (l .table) _ (l .changed) (t .result) (l .inv .3) (t .ensures .0) (l .changed) (λ z f r. below-more (λ x. ¬ (x ≡ a .j) → SupportedBy (a .steps) (a .net .now) (a .ends .now) (a .count) (a .rows .now) (a .j) x z) (l .next) f (λ _. r)) (inr (c .if2 .left, refl)),
+      revised-next (a .logic) (a .net .now) (a .ends .now) (a .count) (a .rows .now) (a .individuals)
+          (SupportedTo (a .logic) (a .net .now) (a .ends .now) (a .count) (a .rows .now) (a .j) (l .next))
+          (SupportedBy (a .logic) (a .net .now) (a .ends .now) (a .count) (a .rows .now) (a .j) (l .next))
+          (SupportedTo (a .logic) (a .net .now) (a .ends .now) (a .count) (a .rows .now) (a .j) (l .next + 1)) (a .table .now) (l .table) _ (l .changed) (t .result)
+          (l .inv .3) (t .ensures .0) (l .changed)
+          (λ z f r. below-more (λ x. ¬ (x ≡ a .j) → SupportedBy (a .logic) (a .net .now) (a .ends .now) (a .count) (a .rows .now) (a .j) x z) (l .next) f (λ _. r))
+          (inr (c .if2 .left, refl)),
     )
 
 same-length : tie.Need-same-length Inv-loop μ-loop
@@ -100,7 +117,10 @@ returns c =
     let s = c .before .before .before .before .before .before .before in
     let a = s .args in
     let l = c .before .loop in (
-      revised-map (a .steps) (a .net .now) (a .ends .now) (a .count) (a .rows .now) (a .individuals) (SupportedTo (a .steps) (a .net .now) (a .ends .now) (a .count) (a .rows .now) (a .j) (l .next)) (SupportedTo (a .steps) (a .net .now) (a .ends .now) (a .count) (a .rows .now) (a .j) (a .individuals)) (l .changed) (a .table .now) (l .table) (λ f i h. f i (omega (arith, h, c .loop-test .left))) (l .inv .3),
+      revised-map (a .logic) (a .net .now) (a .ends .now) (a .count) (a .rows .now) (a .individuals)
+          (SupportedTo (a .logic) (a .net .now) (a .ends .now) (a .count) (a .rows .now) (a .j) (l .next))
+          (SupportedTo (a .logic) (a .net .now) (a .ends .now) (a .count) (a .rows .now) (a .j) (a .individuals)) (l .changed) (a .table .now) (l .table)
+          (λ f i h. f i (omega (arith, h, c .loop-test .left))) (l .inv .3),
       l .inv .2,
     )
 

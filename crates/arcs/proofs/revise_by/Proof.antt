@@ -1,14 +1,11 @@
 -- `arcs::revise_by` meets its contract.
 -- Assumes nothing.
-use mathlib.Core.Path.{ap, sym, subst, _∙_}
-use mathlib.Core.List.{List}
-use Prim.Native.Nat.{ℕ, _≤_, _+_, _*_}
+use mathlib.Core.Path.{ap, _∙_}
+use Prim.Native.Nat.{_+_, _*_, _<_}
 use native.Mathlib.Omega.{arith}
 use lib.ListN.{length}
 use borrow.Author.Tests.{not-true, not-false}
 use Rattle.arcs.specs.Arcs.{SupportedBy}
-use Rattle.network.specs.Constraints.{constraintCount, AllRight}
-use Rattle.network.specs.Network.{between}
 use Rattle.domains.proofs.Gaps.{gaps-noted}
 use Rattle.arcs.proofs.Boxes.{constraints-few}
 use Rattle.arcs.proofs.Arcs.{revised-not, revised-noted, revised-none}
@@ -37,7 +34,9 @@ returns c =
     let a = s .args in
     let w = s .pre .0 in
     let p = s .pre .1 .0 in (
-      revised-none (a .steps) (a .net .now) (a .ends .now) (a .count) (a .rows .now) (a .individuals) (SupportedBy (a .steps) (a .net .now) (a .ends .now) (a .count) (a .rows .now) (a .j) (a .i)) (a .table .now) (λ h. absurd (omega (arith, h, c .before .if1 .taken, c .if2 .taken, ap length (c .before .before .before .between .ensures), ap length (c .before .before .between2 .ensures)))),
+      revised-none (a .logic) (a .net .now) (a .ends .now) (a .count) (a .rows .now) (a .individuals)
+          (SupportedBy (a .logic) (a .net .now) (a .ends .now) (a .count) (a .rows .now) (a .j) (a .i)) (a .table .now)
+          (λ h. absurd (omega (arith, h, c .before .if1 .taken, c .if2 .taken, ap length (c .before .before .before .between .ensures), ap length (c .before .before .between2 .ensures)))),
       s .pre .1 .1 .0,
     )
 
@@ -46,8 +45,19 @@ revise-requires c κs =
     let s = c .before .before .before .before .before .before .before .before .before .before in
     let a = s .args in
     let w = s .pre .0 in
-    let p = s .pre .1 .0 in (
-      (subst (λ (x : List ℕ). AllRight (a .steps) (a .terms) x) (sym (c .before .before .before .before .between .ensures)) (w .wired .right (8 * a .j + a .i) (omega (arith, p .0, p .1, w .individuals-few))), subst (λ (x : List ℕ). AllRight (a .steps) (a .terms) x) (sym (c .before .before .before .between2 .ensures)) (w .wired .right (8 * a .i + a .j) (omega (arith, p .0, p .1, w .individuals-few))), subst (λ (x : List ℕ). constraintCount x ≤ 64) (sym (c .before .before .before .before .between .ensures)) (constraints-few (a .net .now) (a .ends .now) (w .wired .laid) (8 * a .j + a .i) (omega (arith, p .0, p .1, w .individuals-few))), subst (λ (x : List ℕ). constraintCount x ≤ 64) (sym (c .before .before .before .between2 .ensures)) (constraints-few (a .net .now) (a .ends .now) (w .wired .laid) (8 * a .i + a .j) (omega (arith, p .0, p .1, w .individuals-few))), w .wired .few),
+    let p = s .pre .1 .0 in
+    let ef = c .before .before .before .before .between .ensures in
+    let eb = c .before .before .before .between2 .ensures in
+    let f : 8 * a .j + a .i < 64 = omega (arith, p .0, p .1, w .individuals-few) in
+    let b : 8 * a .i + a .j < 64 = omega (arith, p .0, p .1, w .individuals-few) in
+    let few = constraints-few (a .net .now) (a .ends .now) (w .wired .laid) in (
+      (
+        rw ef (w .wired .right (8 * a .j + a .i) f),
+        rw eb (w .wired .right (8 * a .i + a .j) b),
+        rw ef (few (8 * a .j + a .i) f),
+        rw eb (few (8 * a .i + a .j) b),
+        w .wired .few,
+      ),
       ((p .0, p .1, w .individuals-few, p .2, w .candidates-few), (p .3, w .rows-long, p .4, s .pre .1 .1 .0, s .pre .1 .1 .1)),
     )
 
@@ -63,7 +73,11 @@ returns-2 c =
     let a = s .args in
     let w = s .pre .0 in
     let p = s .pre .1 .0 in (
-      revised-not (a .steps) (a .net .now) (a .ends .now) (a .count) (a .rows .now) (a .individuals) (a .j) (a .i) (p .0) (p .1) (p .2) (w .candidates-few) _ _ (c .before .before .before .before .before .revise .result) (a .table .now) _ (c .before .before .before .before .before .before .before .before .before .before .between .ensures) (c .before .before .before .before .before .before .before .before .before .between2 .ensures) (not-true (c .before .before .before .before .before .revise .result) (c .if3 .taken)) (c .before .before .before .before .before .revise .ensures .0),
+      revised-not (a .logic) (a .net .now) (a .ends .now) (a .count) (a .rows .now) (a .individuals) (a .j) (a .i) (p .0) (p .1) (p .2) (w .candidates-few) _ _
+          (c .before .before .before .before .before .revise .result) (a .table .now) _
+          (c .before .before .before .before .before .before .before .before .before .before .between .ensures)
+          (c .before .before .before .before .before .before .before .before .before .between2 .ensures)
+          (not-true (c .before .before .before .before .before .revise .result) (c .if3 .taken)) (c .before .before .before .before .before .revise .ensures .0),
       c .before .before .before .before .before .revise .ensures .1,
     )
 
@@ -87,7 +101,12 @@ returns-3 c =
     let a = s .args in
     let w = s .pre .0 in
     let p = s .pre .1 .0 in (
-      revised-noted (a .steps) (a .net .now) (a .ends .now) (a .count) (a .rows .now) (a .individuals) (a .j) (a .i) (p .0) (p .1) (p .2) (w .candidates-few) _ _ (c .before .before .before .before .before .before .before .before .before .revise .result) (a .table .now) _ _ (c .before .before .before .before .before .before .before .before .before .before .before .before .before .before .between .ensures) (c .before .before .before .before .before .before .before .before .before .before .before .before .before .between2 .ensures) (not-false (c .before .before .before .before .before .before .before .before .before .revise .result) (c .before .before .before .before .if3 .left)) (c .before .before .before .before .before .before .before .before .before .revise .ensures .0) (c .before .before .note-gaps .ensures .same),
+      revised-noted (a .logic) (a .net .now) (a .ends .now) (a .count) (a .rows .now) (a .individuals) (a .j) (a .i) (p .0) (p .1) (p .2) (w .candidates-few) _ _
+          (c .before .before .before .before .before .before .before .before .before .revise .result) (a .table .now) _ _
+          (c .before .before .before .before .before .before .before .before .before .before .before .before .before .before .between .ensures)
+          (c .before .before .before .before .before .before .before .before .before .before .before .before .before .between2 .ensures)
+          (not-false (c .before .before .before .before .before .before .before .before .before .revise .result) (c .before .before .before .before .if3 .left))
+          (c .before .before .before .before .before .before .before .before .before .revise .ensures .0) (c .before .before .note-gaps .ensures .same),
       gaps-noted (a .j) (a .individuals) (a .count) _ _ (w .candidates-few) (c .before .before .before .before .before .before .before .before .before .revise .ensures .1) (c .before .before .note-gaps .ensures),
     )
 

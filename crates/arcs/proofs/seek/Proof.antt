@@ -54,7 +54,13 @@ returns : tie.Need-returns Inv-loop μ-loop
 returns c =
     let s = c .before .before .before .before .before .before .before .before .before .before in
     let a = s .args in
-    record { found = λ h. (c .before .before .before .before .leap .ensures .0 (omega (arith, c .before .before .before .if1 .left)), subst (λ (v : List ℕ). Inside (a .bounds .now) v) (c .before .before .row-at .ensures) (c .before .inside .ensures .0 (c .if2 .taken))); none = λ h. absurd (omega (arith, h, c .before .before .before .before .before .loop-test .taken)) }
+    record {
+      found = λ h. (
+        c .before .before .before .before .leap .ensures .0 (omega (arith, c .before .before .before .if1 .left)),
+        subst (λ (v : List ℕ). Inside (a .bounds .now) v) (c .before .before .row-at .ensures) (c .before .inside .ensures .0 (c .if2 .taken)),
+      );
+      none = λ h. absurd (omega (arith, h, c .before .before .before .before .before .loop-test .taken));
+    }
 
 add-d-2 : tie.Need-add-d-2 Inv-loop μ-loop
 add-d-2 c = search needs
@@ -66,7 +72,9 @@ loop-again-2 : tie.Need-loop-again-2 Inv-loop μ-loop
 loop-again-2 c =
     let s = c .before .before .before .before .before .before .before .before .before .before in
     let a = s .args in
-    below-more (λ x. a .start ≤ x → ¬ Hit (a .bounds .now) (a .table .now) (a .rows .now) (a .i) x) (c .before .before .before .before .before .before .loop .d) (c .before .before .before .before .before .before .loop .inv) (λ _ h. c .before .inside .ensures .1 (c .if2 .left) (subst (λ (v : List ℕ). Inside (a .bounds .now) v) (sym (c .before .before .row-at .ensures)) (h .1)))
+    below-more (λ x. a .start ≤ x → ¬ Hit (a .bounds .now) (a .table .now) (a .rows .now) (a .i) x) (c .before .before .before .before .before .before .loop .d)
+    (c .before .before .before .before .before .before .loop .inv)
+    (λ _ h. c .before .inside .ensures .1 (c .if2 .left) (subst (λ (v : List ℕ). Inside (a .bounds .now) v) (sym (c .before .before .row-at .ensures)) (h .1)))
 
 returns-2 : tie.Need-returns-2 Inv-loop μ-loop
 returns-2 c = record { found = λ h. absurd (omega (arith, h, c .loop-test .left)); none = λ h d o l. c .before .loop .inv d (omega (arith, h)) o }

@@ -26,7 +26,12 @@ returns-3 : tie.Need-returns-3
 returns-3 c =
     let s = c .before .before .before .before .before .before .before in
     let a = s .args in
-    record { found = λ h. absurd (omega (arith, h)); none = λ h d o l. dite (decLt d (a .hint)) (λ z. c .before .seek2 .ensures .none (omega (arith, c .if2 .left)) d o z) (λ z. c .before .before .before .seek .ensures .none (omega (arith, c .before .before .if1 .left)) d (omega (arith, z)) l) }
+    record {
+      found = λ h. absurd (omega (arith, h));
+      none = λ h d o l. dite (decLt d (a .hint))
+          (λ z. c .before .seek2 .ensures .none (omega (arith, c .if2 .left)) d o z)
+          (λ z. c .before .before .before .seek .ensures .none (omega (arith, c .before .before .if1 .left)) d (omega (arith, z)) l);
+    }
 
 pub seek-around-spec : {M : Type 1} → statement M
 seek-around-spec = tie.close (tie.spec seek-requires returns seek-requires-2 returns-2 returns-3)

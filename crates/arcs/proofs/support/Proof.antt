@@ -17,7 +17,9 @@ make-box-requires c κs =
     let s = c .before .before .before .before .before .before .before in
     let a = s .args in
     let p = s .pre .0 in
-    ((p .0, p .1, rw (c .before .row-at .ensures, length-rowAt (a .rows .now) (a .c) (omega (arith, s .pre .1 .0 .2, s .pre .1 .0 .4, s .pre .1 .1 .1))) (p .4)), (p .2, p .3, s .pre .1 .1 .2))
+    let e = c .before .row-at .ensures in
+    let long = length-rowAt (a .rows .now) (a .c) (omega (arith, s .pre .1 .0 .2, s .pre .1 .0 .4, s .pre .1 .1 .1)) in
+    ((p .0, p .1, rw (e, long) (p .4), rw e (s .pre .1 .0 .5)), (p .2, p .3, s .pre .1 .1 .2))
 
 mul-seek-around : tie.Need-mul-seek-around
 mul-seek-around c = search needs
@@ -34,7 +36,7 @@ slice-aggregate-seek-around c =
     let s = c .before .before .before .before .before .before .before .before .before .before .before in
     let a = s .args in
     let t = c .before .before .before .make-box in
-    sym (box-long (a .steps) (a .terms) _ (a .bounds .now) _ (t .result) (t .ensures .0) (omega (arith, t .ensures .1, t .kept .1 .1 .1 .1 .1 .0, s .pre .1 .1 .2)))
+    sym (box-long (a .logic) (a .terms) _ (a .bounds .now) _ (t .result) (t .ensures .0) (omega (arith, t .ensures .1, t .kept .1 .1 .1 .1 .1 .0, s .pre .1 .1 .2)))
 
 seek-around-requires : tie.Need-seek-around-requires
 seek-around-requires c κs =
@@ -42,7 +44,7 @@ seek-around-requires c κs =
     let a = s .args in
     let t = c .before .before .before .make-box in
     let p = s .pre .1 .0 in
-    let o = box-of (a .steps) (a .terms) _ (a .bounds .now) _ (t .result) (t .ensures .0) (omega (arith, t .ensures .1, t .kept .1 .1 .1 .1 .1 .0, s .pre .1 .1 .2)) in
+    let o = box-of (a .logic) (a .terms) _ (a .bounds .now) _ (t .result) (t .ensures .0) (omega (arith, t .ensures .1, t .kept .1 .1 .1 .1 .1 .0, s .pre .1 .1 .2)) in
     ((omega (arith, p .0, p .1), p .3, p .4, s .pre .1 .1 .0, s .pre .1 .1 .1, s .pre .1 .1 .3 (a .i) (p .0)), λ x h. omega (arith, o .terms x h, s .pre .0 .4))
 
 same-length : tie.Need-same-length
@@ -53,7 +55,9 @@ returns c =
     let s = c .before .before .before .before .before .before .before .before .before .before .before .before in
     let a = s .args in
     let t = c .before .before .before .before .make-box in
-    tried-of (a .steps) (a .terms) (a .forth .now) (a .back .now) (a .count) (a .individuals) (a .rows .now) (a .table .now) (a .i) (a .c) (c .seek-around .result) (s .pre .1 .0 .0) (s .pre .1 .1 .4) _ (a .bounds .now) _ (t .result) (c .before .before .before .before .before .before .row-at .ensures) (t .ensures .0) (omega (arith, t .ensures .1, t .kept .1 .1 .1 .1 .1 .0, s .pre .1 .1 .2)) (c .seek-around .ensures)
+    tried-of (a .logic) (a .terms) (a .forth .now) (a .back .now) (a .count) (a .individuals) (a .rows .now) (a .table .now) (a .i) (a .c) (c .seek-around .result)
+    (s .pre .1 .0 .0) (s .pre .1 .1 .4) _ (a .bounds .now) _ (t .result) (c .before .before .before .before .before .before .row-at .ensures) (t .ensures .0)
+    (omega (arith, t .ensures .1, t .kept .1 .1 .1 .1 .1 .0, s .pre .1 .1 .2)) (c .seek-around .ensures)
 
 pub support-spec : {M : Type 1} → statement M
 support-spec =

@@ -23,7 +23,9 @@ link-in-requires c κs = opened-accepted _ _ (sym (c .before .before .before .«
 
 returns : tie.Need-returns
 unfolding linkAnswer
-returns c = sym (answered-before _ (candidateQuestions (c .before .before .before .before .before .args .b .now)) 20 21 _ _ _ (counted-declined _ _ (counted-refused _ _ (sym (c .before .before .before .«open» .ensures) ∙ c .before .n .given .1))))
+returns c =
+    sym (answered-before _ (candidateQuestions (c .before .before .before .before .before .args .b .now)) 20 21 _ _ _
+    (counted-declined _ _ (counted-refused _ _ (sym (c .before .before .before .«open» .ensures) ∙ c .before .n .given .1))))
 
 returns-2 : tie.Need-returns-2
 returns-2 c = search needs

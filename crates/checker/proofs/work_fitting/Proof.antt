@@ -1,10 +1,6 @@
 -- `checker::work_fitting` meets its contract. The columns are filled, copied out row by row, and judged.
 -- Assumes nothing.
-use mathlib.Core.List.{List, _++_}
-use mathlib.Core.Path.{sym, ap₂, _∙_}
-use Prim.Native.Nat.{ℕ}
 use native.Mathlib.Omega.{arith}
-use lib.ListN.{drop}
 use borrow.Author.Needs.{needs}
 use Rattle.book.proofs.Opening.{right-ordered}
 use Rattle.book.proofs.Reading.{right-few}
@@ -13,16 +9,23 @@ use Rattle.checker.proofs.work_fitting.Statement.{statement}
 use Rattle.checker.proofs.work_fitting.Tie as tie
 
 fill-values-requires : tie.Need-fill-values-requires
-fill-values-requires c κs = ((c .before .before .before .before .before .pre .0), ((c .before .before .before .before .before .pre .1 .0), c .before .before .before .before .before .pre .1 .1 .0))
+fill-values-requires c κs = search needs
 
-sub-write-grid : tie.Need-sub-write-grid
-sub-write-grid c = omega (arith, right-ordered (c .before .before .before .before .before .before .before .before .before .args .b .now) (c .before .before .before .before .before .before .before .before .before .args .s) (c .before .before .before .before .before .before .before .before .before .pre .0))
+count-terms-requires : tie.Need-count-terms-requires
+count-terms-requires c κs = right-ordered _ _ (c .before .before .before .before .before .before .before .before .before .pre .0) .0
 
 write-grid-requires : tie.Need-write-grid-requires
-write-grid-requires c κs = (omega (arith, right-few (c .before .before .before .before .before .before .before .before .before .before .args .b .now) (c .before .before .before .before .before .before .before .before .before .before .args .s) (c .before .before .before .before .before .before .before .before .before .before .pre .0)), (c .before .before .before .before .before .before .before .before .before .before .pre .1 .0) .head-right .1 .1 .1 .1 .0, omega (arith, c .before .before .before .before .fill-values .kept), omega (arith, size-is (c .before .before .before .before .before .before .before .before .before .before .args .b .now) (c .before .before .before .before .before .before .before .before .before .before .args .sheet .now) (c .before .before .before .before .before .before .before .before .before .before .args .s) (c .before .before .before .before .before .before .before .before .before .before .pre .0) (c .before .before .before .before .before .before .before .before .before .before .args .p) (c .before .before .before .before .before .before .before .before .before .before .pre .1 .0)))
+write-grid-requires c κs =
+    let start = c .before .before .before .before .before .before .before .before .before .before .before in
+    let size = size-is _ _ _ (start .pre .0) _ (start .pre .1 .0) _ (c .before .count-terms .ensures) in
+    let few = right-few _ _ (start .pre .0) in
+    (omega arith, start .pre .1 .0 .head-right .1 .1 .1 .1 .0, omega arith, omega arith)
 
 verdict-by-requires : tie.Need-verdict-by-requires
-verdict-by-requires c κs = ((c .before .before .before .before .before .before .before .before .before .before .before .before .before .before .pre .0), ((c .before .before .before .before .before .before .before .before .before .before .before .before .before .before .pre .1 .0), (omega (arith, c .before .before .before .before .before .before .before .before .fill-values .kept), c .before .before .before .before .before .before .before .before .fill-values .ensures)))
+verdict-by-requires c κs =
+    let filled = c .before .before .before .before .before .before .before .before .before .fill-values in
+    let start = c .before .before .before .before .before .before .before .before .before .before .before .before .before .before .before in
+    (start .pre .0, (start .pre .1 .0, (omega (arith, filled .kept), filled .ensures)))
 
 same-length : tie.Need-same-length
 same-length c = search needs
@@ -31,14 +34,20 @@ same-length-2 : tie.Need-same-length-2
 same-length-2 c = search needs
 
 returns : tie.Need-returns
-returns c = (c .verdict-by .ensures, c .before .before .before .before .write-grid .ensures ∙ ap₂ (λ (x : List ℕ) (n : ℕ). x ++ drop n (c .before .before .before .before .before .before .before .before .before .before .before .before .before .before .before .args .grid .now)) (fits-grid (c .before .before .before .before .before .before .before .before .before .before .before .before .before .before .before .args .b .now) (c .before .before .before .before .before .before .before .before .before .before .before .before .before .before .before .args .sheet .now) (c .before .before .before .before .before .before .before .before .before .before .before .before .before .before .before .args .s) (c .before .before .before .before .before .before .before .before .before .before .before .before .before .before .before .pre .0) (c .before .before .before .before .before .before .before .before .before .before .before .before .before .before .before .args .p) (c .before .before .before .before .before .before .before .before .before .before .before .before .before .before .before .pre .1 .0) _ (c .before .before .before .before .before .before .before .before .before .fill-values .ensures)) (sym (size-is (c .before .before .before .before .before .before .before .before .before .before .before .before .before .before .before .args .b .now) (c .before .before .before .before .before .before .before .before .before .before .before .before .before .before .before .args .sheet .now) (c .before .before .before .before .before .before .before .before .before .before .before .before .before .before .before .args .s) (c .before .before .before .before .before .before .before .before .before .before .before .before .before .before .before .pre .0) (c .before .before .before .before .before .before .before .before .before .before .before .before .before .before .before .args .p) (c .before .before .before .before .before .before .before .before .before .before .before .before .before .before .before .pre .1 .0))))
+returns c =
+    let counted = c .before .before .before .before .before .before in
+    let start = counted .before .before .before .before .before .before .before .before .before .before in
+    let k = counted .count-terms .ensures in
+    let rows = fits-grid _ _ _ (start .pre .0) _ (start .pre .1 .0) _ k _ (counted .before .before .before .before .fill-values .ensures) in
+    let size = size-is _ _ _ (start .pre .0) _ (start .pre .1 .0) _ k in
+    (c .verdict-by .ensures, rw (c .before .before .before .before .write-grid .ensures, rows, size))
 
 pub work-fitting-spec : {M : Type 1} → statement M
 work-fitting-spec =
     tie.close
     (tie.spec
     fill-values-requires
-    sub-write-grid
+    count-terms-requires
     write-grid-requires
     verdict-by-requires
     same-length

@@ -4,7 +4,7 @@ use mathlib.Core.Path.{sym, _∙_}
 use lib.ListN.{length}
 use borrow.Author.Needs.{needs}
 use Rattle.book.proofs.Opening.{opened-accepted}
-use Rattle.checker.proofs.Working.{work-book, worked-refused, grid-refused}
+use Rattle.checker.proofs.Working.{work-book, refused}
 use Rattle.checker.proofs.work_out.Statement.{statement}
 use Rattle.checker.proofs.work_out.Tie as tie
 
@@ -21,7 +21,10 @@ work-in-requires : tie.Need-work-in-requires
 work-in-requires c κs = opened-accepted _ _ (sym (c .before .before .before .before .«open» .ensures) ∙ c .before .before .s .given .1)
 
 returns : tie.Need-returns
-returns c = let h = work-book (c .before .before .before .before .before .before .before .args .b .now) (c .before .before .before .before .before .before .before .args .sheet .now) (length (c .before .before .before .before .before .before .before .args .grid .now)) _ (sym (c .before .before .before .«open» .ensures) ∙ c .before .n .given .1) in (sym (worked-refused _ _ _ _ h), sym (grid-refused _ _ _ _ h))
+returns c =
+    let start = c .before .before .before .before .before .before .before in
+    refused _ _ _ _ (work-book _ (start .args .sheet .now) (length (start .args .grid .now)) _
+    (sym (c .before .before .before .«open» .ensures) ∙ c .before .n .given .1))
 
 same-length : tie.Need-same-length
 same-length c = search needs

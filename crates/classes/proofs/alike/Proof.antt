@@ -43,8 +43,9 @@ returns : tie.Need-returns Inv-loop μ-loop
 returns c =
     let s = c .before .before .before .before .before .before .before .before .before .before in
     let l = c .before .before .before .before .before .before .loop in
-    let w = c .before .before .before .wide .ensures .0 in
-    tells-no (λ h. let e : getD (s .args .first .now) (c .before .before .before .wide .result) 0 ≡ getD (s .args .second .now) (c .before .before .before .wide .result) 0 = rw w (h (l .x) (c .before .before .before .before .before .loop-test .taken)) in omega (arith, e, c .if1 .taken))
+    let w = c .before .before .before .wide in
+    tells-no (λ h. let e : getD (s .args .first .now) (w .result) 0 ≡ getD (s .args .second .now) (w .result) 0 =
+    rw (w .ensures .0) (h (l .x) (c .before .before .before .before .before .loop-test .taken)) in omega (arith, e, c .if1 .taken))
 
 add-x : tie.Need-add-x Inv-loop μ-loop
 add-x c = search needs

@@ -72,14 +72,22 @@ alike-requires : tie.Need-alike-requires
 alike-requires c κs =
     let s = c .before .before .before .before .before .before .before .before in
     let a = s .args in
-    let p = s .pre .0 in (
-      rw (c .row-at2 .ensures) (omega (arith, length-rowAt (a .rows .now) (getD (a .memory .now) (c .before .before .before .signature .result) 0 - 1) (omega (arith, p .0, s .pre .1 (c .before .before .before .signature .result), c .before .if1 .left)))),
+    let p = s .pre .0 in
+    let h = c .before .before .before .signature .result in (
+      rw (c .row-at2 .ensures) (omega (arith, length-rowAt (a .rows .now) (getD (a .memory .now) h 0 - 1) (omega (arith, p .0, s .pre .1 h, c .before .if1 .left)))),
       rw (c .before .before .before .before .row-at .ensures) (omega (arith, length-rowAt (a .rows .now) (a .c) (omega (arith, p .0, p .2)))),
       p .3,
     )
 
 returns-2 : tie.Need-returns-2
-returns-2 c = (refl, (c .before .before .before .before .before .signature .result, omega (arith, c .before .before .before .if1 .left), rw (← c .before .before .row-at2 .ensures, ← c .before .before .before .before .before .before .row-at .ensures) (c .before .alike .ensures .0 (c .if2 .taken))))
+returns-2 c = (
+  refl,
+  (
+    c .before .before .before .before .before .signature .result,
+    omega (arith, c .before .before .before .if1 .left),
+    rw (← c .before .before .row-at2 .ensures, ← c .before .before .before .before .before .before .row-at .ensures) (c .before .alike .ensures .0 (c .if2 .taken)),
+  ),
+)
 
 add-memory-2 : tie.Need-add-memory-2
 add-memory-2 c = search needs

@@ -12,10 +12,10 @@ use Rattle.classes.proofs.note_all.Statement.{statement}
 use Rattle.classes.proofs.note_all.Tie as tie
 
 abbrev Inv-loop : tie.InvT-loop
-Inv-loop steps net ends j terms seen₀ next₀ seen next = (length seen ≡ length seen₀) × (next ≤ 8) × Read net ends j next seen
+Inv-loop logic net ends j terms seen₀ next₀ seen next = (length seen ≡ length seen₀) × (next ≤ 8) × Read net ends j next seen
 
 abbrev μ-loop : tie.MeasureT-loop
-μ-loop steps net ends j terms seen₀ next₀ seen next = 8 - next
+μ-loop logic net ends j terms seen₀ next₀ seen next = 8 - next
 
 loop-holds : tie.Need-loop-holds Inv-loop μ-loop
 loop-holds c = (refl, omega arith, below-none _)
@@ -82,7 +82,9 @@ loop-again-2 c =
     let u = c .before .before .note-list2 in (
       u .kept .1 .1 .1 .1 .0 ∙ t .kept .1 .1 .1 .1 .0 ∙ l .inv .0,
       omega (arith, c .before .before .before .before .before .before .before .before .before .before .before .loop-test .taken),
-      read-other (a .net .now) (a .ends .now) (a .j) (l .next) (l .seen) (t .last .1 .1 .1 .1 .0) (u .last .1 .1 .1 .1 .0) _ _ (c .before .before .before .before .before .before .before .before .before .between .ensures) (c .before .before .before .before .between2 .ensures) (t .ensures .0) (u .ensures .0) (l .inv .2) (t .ensures .1) (u .ensures .1),
+      read-other (a .net .now) (a .ends .now) (a .j) (l .next) (l .seen) (t .last .1 .1 .1 .1 .0) (u .last .1 .1 .1 .1 .0) _ _
+          (c .before .before .before .before .before .before .before .before .before .between .ensures) (c .before .before .before .before .between2 .ensures)
+          (t .ensures .0) (u .ensures .0) (l .inv .2) (t .ensures .1) (u .ensures .1),
     )
 
 same-length : tie.Need-same-length Inv-loop μ-loop

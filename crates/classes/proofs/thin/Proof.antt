@@ -11,15 +11,15 @@ use Rattle.classes.proofs.thin.Statement.{statement}
 use Rattle.classes.proofs.thin.Tie as tie
 
 abbrev Inv-loop : tie.InvT-loop
-Inv-loop steps net ends terms count individuals rows table₀ j₀ table j = (length table ≡ length table₀) × Thinned steps net ends count rows individuals table₀ table
+Inv-loop logic net ends terms count individuals rows table₀ j₀ table j = (length table ≡ length table₀) × Thinned logic net ends count rows individuals table₀ table
 
 abbrev μ-loop : tie.MeasureT-loop
-μ-loop steps net ends terms count individuals rows table₀ j₀ table j = individuals - j
+μ-loop logic net ends terms count individuals rows table₀ j₀ table j = individuals - j
 
 loop-holds : tie.Need-loop-holds Inv-loop μ-loop
 loop-holds c =
     let a = c .before .before .before .before .args in
-    (refl, thinned-none (a .steps) (a .net .now) (a .ends .now) (a .count) (a .rows .now) (a .individuals) (a .table .now))
+    (refl, thinned-none (a .logic) (a .net .now) (a .ends .now) (a .count) (a .rows .now) (a .individuals) (a .table .now))
 
 thin-one-requires : tie.Need-thin-one-requires Inv-loop μ-loop
 thin-one-requires c κs =
@@ -37,7 +37,7 @@ loop-again c =
     let a = c .before .before .before .before .before .before .before .before .before .before .args in
     let l = c .before .before .before .before .before .loop in
     let t = c .before .before .thin-one in
-    (t .kept .1 .1 .1 .1 .1 .1 .1 .0 ∙ l .inv .0, thinned-then (a .steps) (a .net .now) (a .ends .now) (a .count) (a .rows .now) (a .individuals) (a .table .now) (l .table) _ (l .inv .1) (t .ensures))
+    (t .kept .1 .1 .1 .1 .1 .1 .1 .0 ∙ l .inv .0, thinned-then (a .logic) (a .net .now) (a .ends .now) (a .count) (a .rows .now) (a .individuals) (a .table .now) (l .table) _ (l .inv .1) (t .ensures))
 
 same-length : tie.Need-same-length Inv-loop μ-loop
 same-length c = c .before .loop .inv .0

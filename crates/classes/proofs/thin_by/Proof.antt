@@ -50,7 +50,12 @@ loop-again c =
     let a = s .args in
     let p = s .pre .0 in
     let l = c .before .before .before .loop in
-    (l .inv .0, l .inv .1, omega (arith, c .before .before .loop-test .taken), thinning-off (a .list .now) (a .rows .now) (a .j) (a .count) (a .table .now) (l .table) (l .memory) (l .next) (l .inv .3) (c .before .before .loop-test .taken) (c .if1 .taken))
+    let lt = c .before .before .loop-test .taken in (
+      l .inv .0,
+      l .inv .1,
+      omega (arith, lt),
+      thinning-off (a .list .now) (a .rows .now) (a .j) (a .count) (a .table .now) (l .table) (l .memory) (l .next) (l .inv .3) lt (c .if1 .taken),
+    )
 
 matched-requires : tie.Need-matched-requires Inv-loop μ-loop
 matched-requires c κs =
@@ -75,7 +80,9 @@ loop-again-2 c =
       l .inv .0,
       t .kept .1 .1 .0 ∙ l .inv .1,
       omega (arith, c .before .before .before .before .before .before .before .loop-test .taken),
-      thinning-new (a .list .now) (a .rows .now) (a .j) (a .count) (a .table .now) (l .table) (l .memory) (l .next) (l .inv .3) _ (c .before .before .before .before .before .before .before .loop-test .taken) (c .before .before .before .before .before .if1 .left) (matched-by (a .list .now) (a .rows .now) (l .next) (l .memory) _ (t .result) _ (not-true (t .result) (c .if2 .taken)) (t .ensures)),
+      thinning-new (a .list .now) (a .rows .now) (a .j) (a .count) (a .table .now) (l .table) (l .memory) (l .next) (l .inv .3) _
+          (c .before .before .before .before .before .before .before .loop-test .taken) (c .before .before .before .before .before .if1 .left)
+          (matched-by (a .list .now) (a .rows .now) (l .next) (l .memory) _ (t .result) _ (not-true (t .result) (c .if2 .taken)) (t .ensures)),
     )
 
 mul-table : tie.Need-mul-table Inv-loop μ-loop
@@ -105,7 +112,10 @@ loop-again-3 c =
       length-set (l .table) _ 0 ∙ l .inv .0,
       t .kept .1 .1 .0 ∙ l .inv .1,
       omega (arith, c .before .before .before .before .before .before .before .loop-test .taken),
-      thinning-gone (a .list .now) (a .rows .now) (a .j) (a .count) (a .table .now) (l .table) (l .memory) (l .next) (l .inv .3) _ (c .before .before .before .before .before .before .before .loop-test .taken) (p .4) (omega (arith, l .inv .0, c .before .before .before .before .before .before .before .loop-test .taken, p .1, p .3, p .4)) (matched-by (a .list .now) (a .rows .now) (l .next) (l .memory) _ (t .result) _ (not-false (t .result) (c .if2 .left)) (t .ensures)),
+      thinning-gone (a .list .now) (a .rows .now) (a .j) (a .count) (a .table .now) (l .table) (l .memory) (l .next) (l .inv .3) _
+          (c .before .before .before .before .before .before .before .loop-test .taken) (p .4)
+          (omega (arith, l .inv .0, c .before .before .before .before .before .before .before .loop-test .taken, p .1, p .3, p .4))
+          (matched-by (a .list .now) (a .rows .now) (l .next) (l .memory) _ (t .result) _ (not-false (t .result) (c .if2 .left)) (t .ensures)),
     )
 
 same-length : tie.Need-same-length Inv-loop μ-loop

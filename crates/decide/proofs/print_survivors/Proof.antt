@@ -1,37 +1,33 @@
 -- `decide::print_survivors` meets its contract.
 -- Assumes nothing.
+use mathlib.Core.List.{List}
+use mathlib.Core.Path.{sym, subst}
+use Prim.Native.Nat.{ℕ, _≤_}
 use native.Mathlib.Omega.{arith}
 use borrow.Author.Needs.{needs}
-use Rattle.book.proofs.Opening.{right-ordered, right-steps}
 use Rattle.book.proofs.Reading.{right-terms, right-few}
+use Rattle.book.proofs.Opening.{right-ordered}
+use Rattle.sections.specs.Terms.{termCount, TermsRight}
 use Rattle.decide.proofs.print_survivors.Statement.{statement}
 use Rattle.decide.proofs.print_survivors.Tie as tie
 
-sub-print-types : tie.Need-sub-print-types
-sub-print-types c = omega (arith, right-ordered (c .before .before .args .b .now) (c .before .before .args .s) (c .before .before .pre))
+terms-in-requires : tie.Need-terms-in-requires
+terms-in-requires c κs = right-ordered (c .before .before .args .b .now) (c .before .before .args .s) (c .before .before .pre)
 
-part-print-types-start : tie.Need-part-print-types-start
-part-print-types-start c = omega (arith, right-ordered (c .before .before .args .b .now) (c .before .before .args .s) (c .before .before .pre))
-
-part-print-types-end : tie.Need-part-print-types-end
-part-print-types-end c = omega (arith, right-ordered (c .before .before .args .b .now) (c .before .before .args .s) (c .before .before .pre))
+logic-in-requires : tie.Need-logic-in-requires
+logic-in-requires c κs = search needs
 
 print-types-requires : tie.Need-print-types-requires
 print-types-requires c κs =
-    let b = c .before .before .before .args .b .now in
-    let s = c .before .before .before .args .s in
-    let ok = c .before .before .before .pre in
-    (ok .terms-right, (omega (arith, right-terms b s ok, right-few b s ok), omega (arith, right-steps b s ok)))
+    let s = c .before .before .before .before in
+    let e = sym (c .before .terms-in .ensures) in (
+      subst (λ (z : List ℕ). TermsRight z) e (s .pre .terms-right),
+      (subst (λ (z : List ℕ). termCount z ≤ 64) e (omega (arith, right-terms (s .args .b .now) (s .args .s) (s .pre), right-few (s .args .b .now) (s .args .s) (s .pre))), omega (arith, c .logic-in .ensures .1)),
+    )
 
 returns : tie.Need-returns
 returns c = search needs
 
 pub print-survivors-spec : {M : Type 1} → statement M
 print-survivors-spec =
-    tie.close
-    (tie.spec
-    sub-print-types
-    part-print-types-start
-    part-print-types-end
-    print-types-requires
-    returns)
+    tie.close (tie.spec terms-in-requires logic-in-requires print-types-requires returns)

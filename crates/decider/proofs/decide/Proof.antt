@@ -4,11 +4,7 @@ use mathlib.Core.Path.{sym, _∙_}
 use lib.ListN.{length}
 use borrow.Author.Needs.{needs}
 use Rattle.book.proofs.Opening.{opened-accepted, counted-declined, counted-refused}
-use Rattle.book.proofs.open.Reads as open-reads
 use Rattle.decider.proofs.Deciding.{decide-before, refused}
-use Rattle.decider.proofs.decide.Reads as reads
-use Rattle.decider.proofs.decide.Lts as lts
-use Rattle.decider.proofs.decide_in.Reads as decide-in-reads
 use Rattle.decider.proofs.decide.Statement.{statement}
 use Rattle.decider.proofs.decide.Tie as tie
 

@@ -6,9 +6,6 @@ use lib.ListN.{length}
 use borrow.Author.Needs.{needs}
 use Rattle.book.proofs.Opening.{counted-candidates, counted-small}
 use Rattle.decider.proofs.Deciding.{decide-11, decide-12, decide-none, refused, refused-other, settled}
-use Rattle.decider.proofs.decide_counted.Reads as reads
-use Rattle.decider.proofs.decide_counted.Lts as lts
-use Rattle.decider.proofs.decide_checked.Reads as decide-checked-reads
 use Rattle.decider.proofs.decide_counted.Statement.{statement}
 use Rattle.decider.proofs.decide_counted.Tie as tie
 

@@ -5,11 +5,7 @@ use native.Mathlib.Omega.{arith}
 use lib.ListN.{length}
 use borrow.Author.Needs.{needs}
 use Rattle.book.proofs.Opening.{counted-declined}
-use Rattle.book.proofs.count_in.Reads as count-in-reads
 use Rattle.decider.proofs.Deciding.{decide-before, refused}
-use Rattle.decider.proofs.decide_in.Reads as reads
-use Rattle.decider.proofs.decide_in.Lts as lts
-use Rattle.decider.proofs.decide_counted.Reads as decide-counted-reads
 use Rattle.decider.proofs.decide_in.Statement.{statement}
 use Rattle.decider.proofs.decide_in.Tie as tie
 

@@ -1,75 +1,41 @@
 -- `decider::mark` meets its contract.
 -- Assumes nothing.
-use mathlib.Core.Path.{sym, ap, ap₂, subst, _∙_}
 use mathlib.Core.List.{List, _++_}
+use mathlib.Core.Path.{sym, ap, ap₂, _∙_}
 use Prim.Native.Nat.{ℕ}
-use native.Mathlib.Omega.{arith}
-use lib.ListN.{drop, length}
+use lib.ListN.{length, drop}
 use borrow.Author.Needs.{needs}
-use Rattle.book.proofs.Opening.{right-ordered, right-steps}
-use Rattle.book.proofs.Reading.{right-terms, right-few}
+use Rattle.decider.proofs.Equipped.{elimination, survivors-are}
 use Rattle.elimination.specs.Marks.{marksOf}
-use Rattle.sections.specs.Rules.{RulesRight}
-use Rattle.book.specs.Layout.{ruleBytes}
-use Rattle.decider.proofs.Deciding.{count-is, survivors-are}
-use Rattle.decider.proofs.mark.Reads as reads
-use Rattle.decider.proofs.mark.Lts as lts
+use Rattle.book.proofs.Opening.{right-ordered}
 use Rattle.decider.proofs.mark.Statement.{statement}
 use Rattle.decider.proofs.mark.Tie as tie
 
-sub-eliminate : tie.Need-sub-eliminate
-sub-eliminate c =
-    let s = c .before .before in
-    omega (arith, right-ordered (s .args .b .now) (s .args .s) (s .pre .0))
+terms-in-requires : tie.Need-terms-in-requires
+terms-in-requires c κs = right-ordered (c .before .before .before .args .b .now) (c .before .before .before .args .s) (c .before .before .before .pre .0 .right)
 
-part-eliminate-start : tie.Need-part-eliminate-start
-part-eliminate-start c =
-    let s = c .before .before in
-    omega (arith, right-ordered (s .args .b .now) (s .args .s) (s .pre .0))
-
-part-eliminate-end : tie.Need-part-eliminate-end
-part-eliminate-end c =
-    let s = c .before .before in
-    omega (arith, right-ordered (s .args .b .now) (s .args .s) (s .pre .0))
-
-sub-eliminate-2 : tie.Need-sub-eliminate-2
-sub-eliminate-2 c =
-    let s = c .before .before .before in
-    omega (arith, right-ordered (s .args .b .now) (s .args .s) (s .pre .0))
-
-part-eliminate-start-2 : tie.Need-part-eliminate-start-2
-part-eliminate-start-2 c =
-    let s = c .before .before .before in
-    omega (arith, right-ordered (s .args .b .now) (s .args .s) (s .pre .0))
-
-part-eliminate-end-2 : tie.Need-part-eliminate-end-2
-part-eliminate-end-2 c =
-    let s = c .before .before .before in
-    omega (arith, right-ordered (s .args .b .now) (s .args .s) (s .pre .0))
+rules-in-requires : tie.Need-rules-in-requires
+rules-in-requires c κs =
+    let s = c .before .before .before .before in
+    right-ordered (s .args .b .now) (s .args .s) (s .pre .0 .right)
 
 eliminate-requires : tie.Need-eliminate-requires
 eliminate-requires c κs =
-    let s = c .before .before .before .before .before in
-    ((s .pre .0) .terms-right, (subst (RulesRight (ruleBytes (s .args .b .now) (s .args .s))) (sym (right-terms (s .args .b .now) (s .args .s) (s .pre .0))) ((s .pre .0) .rules-right), ((right-steps (s .args .b .now) (s .args .s) (s .pre .0) .0, right-steps (s .args .b .now) (s .args .s) (s .pre .0) .1, omega (arith, right-terms (s .args .b .now) (s .args .s) (s .pre .0), right-few (s .args .b .now) (s .args .s) (s .pre .0)), s .pre .1 .1, s .pre .1 .2), count-is (s .args .b .now) (s .args .s) (s .pre .0) (s .args .count) (s .pre .1 .0))))
+    let s = c .before .before .before .before .before .before in
+    (elimination (s .args .b .now) (s .args .s) (s .args .logic) (s .args .slots .now) (s .pre .0) _ _ (c .before .before .terms-in .ensures) (c .before .rules-in .ensures) (s .args .count) (s .pre .1 .0) (s .pre .1 .1), s .pre .1 .2)
 
 same-length : tie.Need-same-length
 same-length c = search needs
 
 returns : tie.Need-returns
 returns c =
-    let s = c .before .before .before .before .before .before .before .before in
-    (c .before .before .eliminate .ensures .0 ∙ ap length (survivors-are (s .args .b .now) (s .args .s) (s .pre .0)), c .before .before .eliminate .ensures .1 ∙ ap₂ (λ (xs : List ℕ) (n : ℕ). marksOf xs n ++ drop n (s .args .marks .now)) (survivors-are (s .args .b .now) (s .args .s) (s .pre .0)) (sym (s .pre .1 .0)))
+    let s = c .before .before .before .before .before .before .before .before .before in
+    let eliminate = c .before .before .eliminate in
+    let e = survivors-are (s .args .b .now) (s .args .s) (s .args .logic) (s .args .slots .now) (s .pre .0) _ _ (c .before .before .before .before .before .terms-in .ensures) (c .before .before .before .before .rules-in .ensures) in (
+      eliminate .ensures .0 ∙ ap length e,
+      eliminate .ensures .1 ∙ ap₂ (λ (xs : List ℕ) (n : ℕ). marksOf xs n ++ drop n (s .args .marks .now)) e (sym (s .pre .1 .0)),
+    )
 
 pub mark-spec : {M : Type 1} → statement M
 mark-spec =
-    tie.close
-    (tie.spec
-    sub-eliminate
-    part-eliminate-start
-    part-eliminate-end
-    sub-eliminate-2
-    part-eliminate-start-2
-    part-eliminate-end-2
-    eliminate-requires
-    same-length
-    returns)
+    tie.close (tie.spec terms-in-requires rules-in-requires eliminate-requires same-length returns)

@@ -8,8 +8,6 @@ use lib.ListN.{length, take, drop}
 use borrow.Author.Needs.{needs}
 use Rattle.book.specs.Writing.{wordBytes}
 use Rattle.decider.proofs.Deciding.{placement-start, placement-turn, placement-end}
-use Rattle.decider.proofs.write_placement.Reads as reads
-use Rattle.decider.proofs.write_placement.Lts as lts
 use Rattle.decider.proofs.write_placement.Statement.{statement}
 use Rattle.decider.proofs.write_placement.Tie as tie
 

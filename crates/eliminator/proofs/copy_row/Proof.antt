@@ -5,7 +5,7 @@ use Prim.Native.Nat.{_+_, _*_, _-_, _≤_}
 use native.Mathlib.Omega.{arith}
 use lib.ListN.{length, length-set}
 use borrow.Author.Needs.{needs}
-use Rattle.witnesses.specs.Tables.{slotCount}
+use Rattle.slots.specs.Slots.{slotCount}
 use Rattle.eliminator.specs.Filling.{Copied}
 use Rattle.eliminator.proofs.Filling.{copied-none, copied-more}
 use Rattle.eliminator.proofs.copy_row.Statement.{statement}

@@ -3,11 +3,12 @@
 use mathlib.Core.Path.{sym, subst}
 use native.Mathlib.Omega.{arith}
 use borrow.Author.Needs.{needs}
-use Rattle.semantics.specs.Interpretations.{graded}
+use Rattle.gradings.specs.Gradings.{grading}
 use Rattle.sections.specs.Terms.{termsOf}
 use Rattle.sections.specs.Rules.{RulesRight}
 use Rattle.sections.proofs.Terms.{length-terms, terms-ordered}
-use Rattle.eliminator.proofs.Filling.{entered-more, slot-child, row-front}
+use Rattle.slots.proofs.Slots.{slot-child}
+use Rattle.eliminator.proofs.Filling.{entered-more, row-front}
 use Rattle.eliminator.proofs.enter.Statement.{statement}
 use Rattle.eliminator.proofs.enter.Tie as tie
 
@@ -23,9 +24,8 @@ slice-aggregate-mark-by-rules c = search needs
 mark-by-rules-requires : tie.Need-mark-by-rules-requires
 mark-by-rules-requires c κs =
     let s = c .before .before .before .before .before .before .before .before .before .before in
-    let p = s .pre .1 .1 .0 in
     let k = c .before .before .fill-row .kept in
-    λ i h. omega (arith, s .pre .1 .0 i h)
+    λ i h. omega (arith, s .pre .0 .few-terms, s .pre .0 .rules-right i h)
 
 slice-aggregate-copy-row : tie.Need-slice-aggregate-copy-row
 slice-aggregate-copy-row c = search needs
@@ -33,11 +33,11 @@ slice-aggregate-copy-row c = search needs
 copy-row-requires : tie.Need-copy-row-requires
 copy-row-requires c κs =
     let s = c .before .before .before .before .before .before .before .before .before .before .before .before .before .before in
-    let p = s .pre .1 .1 .0 in
+    let w = s .pre .0 in
     let k = c .before .before .before .before .before .before .fill-row .kept in
     let e = length-terms (s .args .terms .now) in
-    let S = s .pre .1 .1 .1 .0 in
-    (omega arith, λ q h. omega (arith, S .terms q h, slot-child (termsOf (s .args .terms .now)) (terms-ordered (s .args .terms .now) (s .pre .0)) (s .args .slots .now) S q h))
+    let S = w .slots-are in
+    (omega (arith, w .few-slots, w .few, w .few-terms, s .pre .1 .0), λ q h. omega (arith, S .terms q h, slot-child (termsOf (s .args .terms .now)) (terms-ordered (s .args .terms .now) (w .terms-right)) (s .args .slots .now) S q h, w .few-terms))
 
 slice-write-marks : tie.Need-slice-write-marks
 slice-write-marks c = search needs
@@ -59,12 +59,15 @@ same-length-3 c = search needs
 
 returns : tie.Need-returns
 returns c =
+    let mark-by-rules = c .before .before .before .before .before .before .before .before .mark-by-rules in
     let s = c .before .before .before .before .before .before .before .before .before .before .before .before .before .before .before .before .before .before .before in
-    let p = s .pre .1 .1 .0 in
-    entered-more (graded (s .args .steps) (termsOf (s .args .terms .now))) (terms-ordered (s .args .terms .now) (s .pre .0)) (s .args .rules .now)
-    (subst (RulesRight (s .args .rules .now)) (sym (length-terms (s .args .terms .now))) (s .pre .1 .0))
-    (s .args .slots .now) (s .args .own .now) (s .args .child .now) (s .args .marks .now) (s .pre .1 .1 .1 .0) (p .1) (s .args .c) (s .args .left) (s .pre .1 .1 .1 .1)
-    _ _ _ _ (row-front (graded (s .args .steps) (termsOf (s .args .terms .now))) (s .args .c) _ _ (c .before .before .before .before .before .before .before .before .before .before .before .fill-row .ensures)) (c .before .before .before .before .copy-row .ensures) (p .3) (c .before .before .before .before .before .before .before .before .mark-by-rules .ensures .0) (c .before .before .before .before .before .before .before .before .mark-by-rules .ensures .1)
+    let w = s .pre .0 in
+    entered-more (grading (s .args .logic) (termsOf (s .args .terms .now))) (terms-ordered (s .args .terms .now) (w .terms-right)) (s .args .rules .now)
+    (subst (RulesRight (s .args .rules .now)) (sym (length-terms (s .args .terms .now))) (w .rules-right))
+    (s .args .slots .now) (s .args .own .now) (s .args .child .now) (s .args .marks .now) (w .slots-are) (w .few-slots) (s .args .c) (s .args .left) (s .pre .1 .1)
+    _ _ _ _ (row-front (grading (s .args .logic) (termsOf (s .args .terms .now))) (s .args .c) _ _
+    (c .before .before .before .before .before .before .before .before .before .before .before .fill-row .ensures)) (c .before .before .before .before .copy-row .ensures) (s .pre .1 .0 .0)
+    (mark-by-rules .ensures .0) (mark-by-rules .ensures .1)
 
 pub enter-spec : {M : Type 1} → statement M
 enter-spec =

@@ -1,63 +1,39 @@
 -- `eliminator::mark_on_tables` meets its contract.
 -- Assumes nothing.
-use mathlib.Core.Path.{sym}
-use Prim.Native.Nat.{_*_, _≤_}
 use native.Mathlib.Omega.{arith}
-use lib.Seq.{length-take-le}
+use lib.ListN.{length}
 use borrow.Author.Needs.{needs}
-use Rattle.semantics.specs.Interpretations.{graded}
-use Rattle.semantics.specs.Candidates.{candidates}
+use Rattle.eliminator.proofs.Ends.{ready-of, state-of, settled-survivors}
+use Rattle.sweeps.proofs.Sweeps.{ready-sized, state-sized, settled-sized}
+use Rattle.sections.proofs.Terms.{terms-ordered}
+use Rattle.sections.specs.Rules.{rulesOf}
 use Rattle.sections.specs.Terms.{termsOf}
-use Rattle.eliminator.proofs.Filling.{places-few, slots-few, slots-of}
 use Rattle.eliminator.proofs.mark_on_tables.Statement.{statement}
 use Rattle.eliminator.proofs.mark_on_tables.Tie as tie
 
-slice-aggregate-collect : tie.Need-slice-aggregate-collect
-slice-aggregate-collect c = search needs
-
-collect-requires : tie.Need-collect-requires
-collect-requires c κs =
-    let s = c .before .before .before .before .before .before .before in
-    let p = s .pre .1 .1 .0 in
-    let n : candidates (graded (s .args .steps) (termsOf (s .args .terms .now))) ≤ 16384 = omega (arith, s .pre .1 .1 .1 .0) in
-    (p .1, omega arith, places-few (s .args .steps) (termsOf (s .args .terms .now)) (p .0) n)
-
-mul-slots : tie.Need-mul-slots
-mul-slots c =
-    let s = c .before .before .before .before .before .before .before .before .before in
-    let p = s .pre .1 .1 .0 in
-    let n : candidates (graded (s .args .steps) (termsOf (s .args .terms .now))) ≤ 16384 = omega (arith, s .pre .1 .1 .1 .0) in
-    let v = c .before .collect in
-    let m = slots-few (s .args .steps) (termsOf (s .args .terms .now)) _ (v .result) (p .0) n (v .ensures) in
-    omega arith
-
-array-share-prefix-slots : tie.Need-array-share-prefix-slots
-array-share-prefix-slots c =
-    let s = c .before .before .before .before .before .before .before .before .before in
-    let p = s .pre .1 .1 .0 in
-    let n : candidates (graded (s .args .steps) (termsOf (s .args .terms .now))) ≤ 16384 = omega (arith, s .pre .1 .1 .1 .0) in
-    let v = c .before .collect in
-    let m = slots-few (s .args .steps) (termsOf (s .args .terms .now)) _ (v .result) (p .0) n (v .ensures) in
-    omega (arith, v .kept)
-
-slice-aggregate-mark-by-slots : tie.Need-slice-aggregate-mark-by-slots
-slice-aggregate-mark-by-slots c =
+enter-all-requires : tie.Need-enter-all-requires
+enter-all-requires c κs =
     let s = c .before .before .before .before .before .before .before .before .before .before in
-    let p = s .pre .1 .1 .0 in
-    let n : candidates (graded (s .args .steps) (termsOf (s .args .terms .now))) ≤ 16384 = omega (arith, s .pre .1 .1 .1 .0) in
-    let v = c .before .before .collect in
-    let m = slots-few (s .args .steps) (termsOf (s .args .terms .now)) _ (v .result) (p .0) n (v .ensures) in
-    sym (length-take-le (4 * v .result) _ (omega (arith, v .kept)))
+    (s .pre .0, omega (arith, s .pre .0 .few, s .pre .1 .0))
 
-mark-by-slots-requires : tie.Need-mark-by-slots-requires
-mark-by-slots-requires c κs =
-    let s = c .before .before .before .before .before .before .before .before .before .before .before .before .before .before in
-    let p = s .pre .1 .1 .0 in
-    let n : candidates (graded (s .args .steps) (termsOf (s .args .terms .now))) ≤ 16384 = omega (arith, s .pre .1 .1 .1 .0) in
-    let v = c .before .before .before .before .before .before .collect in
-    let m = slots-few (s .args .steps) (termsOf (s .args .terms .now)) _ (v .result) (p .0) n (v .ensures) in
-    let l = length-take-le (4 * v .result) (v .last .1 .0) (omega (arith, v .kept)) in
-    (s .pre .0, (s .pre .1 .0, ((p .1, omega arith, p .2), (s .pre .1 .1 .1 .0, (slots-of (termsOf (s .args .terms .now)) _ (v .result) (v .ensures) (omega (arith, v .kept)), s .pre .1 .1 .1 .1)))))
+settle-requires : tie.Need-settle-requires
+settle-requires c κs =
+    let s = c .before .before .before .before .before .before .before .before .before .before .before .before .before .before .before .before .before .before .before .before .before in
+    let enter-all = c .before .before .before .before .before .before .before .before .before .before .enter-all in
+    let w = s .pre .0 in
+    let h = s .pre .1 .0 in
+    let k = enter-all .kept in (
+      ready-sized (s .args .logic) (length (s .args .marks .now)) _ (s .args .slots .now) _ _ (omega (arith, enter-all .kept))
+          (ready-of (s .args .logic) (termsOf (s .args .terms .now)) (terms-ordered (s .args .terms .now) (s .pre .0 .terms-right)) (rulesOf (s .args .rules .now)) (length (s .args .marks .now))
+          (s .args .slots .now) _ _ _ _ (w .slots-are) (enter-all .ensures) (w .few-steps) (w .few-slots) (omega (arith, k, w .few)) (omega (arith, k, w .few))),
+      (
+        omega (arith, k, w .few),
+        state-sized (s .args .logic) (length (s .args .marks .now)) _ (s .args .slots .now) _ _ (omega (arith, enter-all .kept)) _ _ _
+            (state-of (s .args .logic) (termsOf (s .args .terms .now)) (terms-ordered (s .args .terms .now) (s .pre .0 .terms-right)) (rulesOf (s .args .rules .now)) (length (s .args .marks .now))
+            (s .args .slots .now) _ _ _ _ (w .slots-are) (enter-all .ensures) (s .args .memory .now) (w .few-slots) (omega (arith, k))
+            (λ i l. s .pre .1 .1 i (omega (arith, w .few)))),
+      ),
+    )
 
 same-length : tie.Need-same-length
 same-length c = search needs
@@ -72,18 +48,22 @@ same-length-4 : tie.Need-same-length-4
 same-length-4 c = search needs
 
 returns : tie.Need-returns
-returns c = search needs
+returns c =
+    let s = c .before .before .before .before .before .before .before .before .before .before .before .before .before .before .before .before .before .before .before .before .before .before .before .before .before .before in
+    let enter-all = c .before .before .before .before .before .before .before .before .before .before .before .before .before .before .before .enter-all in
+    let settle = c .before .before .before .before .settle in
+    let w = s .pre .0 in
+    let k = enter-all .kept in
+    settled-survivors (s .args .logic) (termsOf (s .args .terms .now)) (terms-ordered (s .args .terms .now) (s .pre .0 .terms-right)) (rulesOf (s .args .rules .now)) (length (s .args .marks .now))
+    (s .args .slots .now) _ _ _ _ (w .slots-are) (enter-all .ensures) (w .counted) _ _ (omega (arith, k, settle .kept))
+    (settled-sized (s .args .logic) _ (length (s .args .marks .now)) (s .args .slots .now) _ _ (omega (arith, k)) _ _ _ (settle .ensures))
 
 pub mark-on-tables-spec : {M : Type 1} → statement M
 mark-on-tables-spec =
     tie.close
     (tie.spec
-    slice-aggregate-collect
-    collect-requires
-    mul-slots
-    array-share-prefix-slots
-    slice-aggregate-mark-by-slots
-    mark-by-slots-requires
+    enter-all-requires
+    settle-requires
     same-length
     same-length-2
     same-length-3

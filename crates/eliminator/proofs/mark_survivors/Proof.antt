@@ -15,9 +15,7 @@ slice-aggregate-mark-on-tables-3 : tie.Need-slice-aggregate-mark-on-tables-3
 slice-aggregate-mark-on-tables-3 c = search needs
 
 mark-on-tables-requires : tie.Need-mark-on-tables-requires
-mark-on-tables-requires c κs =
-    let s = c .before .before .before .before .before .before .before in
-    (s .pre .0, (s .pre .1 .0, (s .pre .1 .1 .0, (s .pre .1 .1 .1, ((zeros-long 262144, zeros-long 262144, zeros-long 262144), λ i _. zeros-at 262144 i)))))
+mark-on-tables-requires c κs = (c .before .before .before .before .before .before .before .before .pre, ((zeros-long 262144, zeros-long 262144, zeros-long 262144), λ i _. zeros-at 262144 i))
 
 same-length : tie.Need-same-length
 same-length c = search needs

@@ -11,17 +11,17 @@ use Rattle.filter.proofs.allow_row.Statement.{statement}
 use Rattle.filter.proofs.allow_row.Tie as tie
 
 abbrev Inv-loop : tie.InvT-loop
-Inv-loop steps memberships net ends terms individuals c row table₀ j₀ table j =
-    (j ≤ individuals) × (length table ≡ length table₀) × Column steps memberships net ends row j c table₀ table
+Inv-loop logic memberships net ends terms individuals c row table₀ j₀ table j =
+    (j ≤ individuals) × (length table ≡ length table₀) × Column logic memberships net ends row j c table₀ table
 
 abbrev μ-loop : tie.MeasureT-loop
-μ-loop steps memberships net ends terms individuals c row table₀ j₀ table j = individuals - j
+μ-loop logic memberships net ends terms individuals c row table₀ j₀ table j = individuals - j
 
 loop-holds : tie.Need-loop-holds Inv-loop μ-loop
 loop-holds c =
     let s = c .before .before .before .before .before in
     let a = s .args in
-    (omega arith, refl, column-start (a .steps) (a .memberships .now) (a .net .now) (a .ends .now) (a .row .now) (a .c) (s .pre .1 .1 .2) (a .table .now))
+    (omega arith, refl, column-start (a .logic) (a .memberships .now) (a .net .now) (a .ends .now) (a .row .now) (a .c) (s .pre .1 .1 .2) (a .table .now))
 
 admitted-requires : tie.Need-admitted-requires Inv-loop μ-loop
 admitted-requires c κs = let s = c .before .before .before .before .before .before .before in (s .pre .0, (s .pre .1 .0, (omega (arith, c .loop-test .taken, s .pre .1 .1 .0), s .pre .1 .1 .1)))
@@ -47,7 +47,9 @@ loop-again c =
     let a = s .args in (
       omega arith,
       length-set (c .before .before .loop .table) (16384 * c .before .before .loop .j + a .c) (c .admitted .result) ∙ c .before .before .loop .inv .1,
-      column-turn (a .steps) (a .memberships .now) (a .net .now) (a .ends .now) (a .row .now) (a .c) (s .pre .1 .1 .2) (a .table .now) (c .before .before .loop .j) (c .before .before .loop .table) (c .admitted .result) (omega (arith, c .before .before .loop .inv .1, s .pre .1 .1)) (c .admitted .ensures) (c .before .before .loop .inv .2),
+      column-turn (a .logic) (a .memberships .now) (a .net .now) (a .ends .now) (a .row .now) (a .c) (s .pre .1 .1 .2) (a .table .now) (c .before .before .loop .j)
+          (c .before .before .loop .table) (c .admitted .result) (omega (arith, c .before .before .loop .inv .1, s .pre .1 .1)) (c .admitted .ensures)
+          (c .before .before .loop .inv .2),
     )
 
 same-length : tie.Need-same-length Inv-loop μ-loop
@@ -56,7 +58,7 @@ same-length c = c .before .loop .inv .1
 returns : tie.Need-returns Inv-loop μ-loop
 returns c =
     let a = c .before .before .before .before .before .before .before .args in
-    subst (λ (k : ℕ). Column (a .steps) (a .memberships .now) (a .net .now) (a .ends .now) (a .row .now) k (a .c) (a .table .now) (c .before .loop .table)) (omega arith) (c .before .loop .inv .2)
+    subst (λ (k : ℕ). Column (a .logic) (a .memberships .now) (a .net .now) (a .ends .now) (a .row .now) k (a .c) (a .table .now) (c .before .loop .table)) (omega arith) (c .before .loop .inv .2)
 
 pub allow-row-spec : {M : Type 1} → statement M
 allow-row-spec =

@@ -12,17 +12,17 @@ use Rattle.filter.proofs.fill_table.Statement.{statement}
 use Rattle.filter.proofs.fill_table.Tie as tie
 
 abbrev Inv-loop : tie.InvT-loop
-Inv-loop steps memberships net ends terms marks count individuals rows table₀ entered₀ table entered =
-    (entered ≤ count) × (length table ≡ length table₀) × Filtered steps memberships net ends marks rows individuals entered table
+Inv-loop logic memberships net ends terms marks count individuals rows table₀ entered₀ table entered =
+    (entered ≤ count) × (length table ≡ length table₀) × Filtered logic memberships net ends marks rows individuals entered table
 
 abbrev μ-loop : tie.MeasureT-loop
-μ-loop steps memberships net ends terms marks count individuals rows table₀ entered₀ table entered = count - entered
+μ-loop logic memberships net ends terms marks count individuals rows table₀ entered₀ table entered = count - entered
 
 loop-holds : tie.Need-loop-holds Inv-loop μ-loop
 loop-holds c =
     let s = c .before .before .before .before .before .before in
     let a = s .args in
-    (omega arith, refl, filtered-start (a .steps) (a .memberships .now) (a .net .now) (a .ends .now) (a .marks .now) (a .rows .now) (a .individuals) (a .table .now) (s .pre .1 .1 .2))
+    (omega arith, refl, filtered-start (a .logic) (a .memberships .now) (a .net .now) (a .ends .now) (a .marks .now) (a .rows .now) (a .individuals) (a .table .now) (s .pre .1 .1 .2))
 
 add-entered : tie.Need-add-entered Inv-loop μ-loop
 add-entered c = search needs
@@ -40,7 +40,8 @@ loop-again c =
     let l = c .before .before .before .loop in (
       omega arith,
       l .inv .1,
-      filtered-off (a .steps) (a .memberships .now) (a .net .now) (a .ends .now) (a .marks .now) (a .rows .now) (a .individuals) (l .entered) (omega (arith, c .before .before .loop-test .taken, s .pre .1 .0 .candidates-few)) (l .table) (c .if1 .taken) (l .inv .2),
+      filtered-off (a .logic) (a .memberships .now) (a .net .now) (a .ends .now) (a .marks .now) (a .rows .now) (a .individuals) (l .entered)
+          (omega (arith, c .before .before .loop-test .taken, s .pre .1 .0 .candidates-few)) (l .table) (c .if1 .taken) (l .inv .2),
     )
 
 row-at-requires : tie.Need-row-at-requires Inv-loop μ-loop
@@ -66,9 +67,12 @@ loop-again-2 c = let s = c .before .before .before .before .before .before .befo
     let a = s .args in
     let l = c .before .before .before .before .before .before .before .before .loop in
     let f = c .before .before .allow-row in (
-      omega arith,
+      omega (arith, c .before .before .before .before .before .before .before .loop-test .taken),
       f .kept .1 .1 .1 .1 .1 .1 .1 .1 .0 ∙ l .inv .1,
-      filtered-on (a .steps) (a .memberships .now) (a .net .now) (a .ends .now) (a .marks .now) (a .rows .now) (a .individuals) (l .entered) (omega (arith, c .before .before .before .before .before .before .before .loop-test .taken, s .pre .1 .0 .candidates-few)) (l .table) (f .last .1 .1 .1 .1 .1 .1 .1 .1 .0) _ (c .before .before .before .before .row-at .ensures) (c .before .before .before .before .before .if1 .left) (f .ensures) (l .inv .2),
+      filtered-on (a .logic) (a .memberships .now) (a .net .now) (a .ends .now) (a .marks .now) (a .rows .now) (a .individuals) (l .entered)
+          (omega (arith, c .before .before .before .before .before .before .before .loop-test .taken, s .pre .1 .0 .candidates-few)) (l .table)
+          (f .last .1 .1 .1 .1 .1 .1 .1 .1 .0) _ (c .before .before .before .before .row-at .ensures) (c .before .before .before .before .before .if1 .left) (f .ensures)
+          (l .inv .2),
     )
 
 same-length : tie.Need-same-length Inv-loop μ-loop
@@ -77,7 +81,7 @@ same-length c = c .before .loop .inv .1
 returns : tie.Need-returns Inv-loop μ-loop
 returns c =
     let a = c .before .before .before .before .before .before .before .before .args in
-    subst (λ (k : ℕ). Filtered (a .steps) (a .memberships .now) (a .net .now) (a .ends .now) (a .marks .now) (a .rows .now) (a .individuals) k (c .before .loop .table)) (omega arith) (c .before .loop .inv .2)
+    subst (λ (k : ℕ). Filtered (a .logic) (a .memberships .now) (a .net .now) (a .ends .now) (a .marks .now) (a .rows .now) (a .individuals) k (c .before .loop .table)) (omega arith) (c .before .loop .inv .2)
 
 pub fill-table-spec : {M : Type 1} → statement M
 fill-table-spec =

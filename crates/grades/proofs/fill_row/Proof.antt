@@ -9,7 +9,7 @@ use lib.ListN.{length, take, drop}
 use borrow.Author.Needs.{needs}
 use Rattle.chain.specs.Lists.{table}
 use Rattle.chain.proofs.Lists.{length-table, zero-filled, length-filled, take-filled, set-filled}
-use Rattle.semantics.specs.Interpretations.{graded}
+use Rattle.gradings.specs.Gradings.{grading}
 use Rattle.semantics.specs.Candidates.{gradeIn}
 use Rattle.sections.specs.Terms.{termCount, termsOf}
 use Rattle.grades.proofs.Rows.{row-terms}
@@ -18,11 +18,11 @@ use Rattle.grades.proofs.fill_row.Statement.{statement}
 use Rattle.grades.proofs.fill_row.Tie as tie
 
 abbrev Inv-loop : tie.InvT-loop
-Inv-loop terms steps c row₀ count rest₀ i₀ row rest i =
-    (i ≤ termCount terms) × (row ≡ earlier steps terms c i ++ drop i row₀) × (rest ≡ restAt steps terms c i)
+Inv-loop terms logic c row₀ count rest₀ i₀ row rest i =
+    (i ≤ termCount terms) × (row ≡ earlier logic terms c i ++ drop i row₀) × (rest ≡ restAt (logic .steps) terms c i)
 
 abbrev μ-loop : tie.MeasureT-loop
-μ-loop terms steps c row₀ count rest₀ i₀ row rest i = termCount terms - i
+μ-loop terms logic c row₀ count rest₀ i₀ row rest i = termCount terms - i
 
 -- at the loop's head: the row's length, and the grades at its front
 module _ (c : tie.At-loop Inv-loop μ-loop) where
@@ -30,7 +30,7 @@ module _ (c : tie.At-loop Inv-loop μ-loop) where
   entry = c .before .before .before
 
   abbrev grade : ℕ → ℕ
-  grade = gradeIn (graded (entry .args .steps) (termsOf (entry .args .terms .now))) (entry .args .c)
+  grade = gradeIn (grading (entry .args .logic) (termsOf (entry .args .terms .now))) (entry .args .c)
 
   long : length (c .loop .row) ≡ length (entry .args .row .now)
   long = ap length (c .loop .inv .1) ∙ length-filled grade (entry .args .row .now) (c .loop .i) (omega arith)
@@ -55,7 +55,7 @@ term-grade-requires c κs =
     let h = c .before .before .before in
     let s = c .before .before .before .before .before .before in (
       s .pre .0,
-      (omega (arith, ap length (front h), length-table (grade h) (h .loop .i)), λ j. rw (front h) (earlier-le (s .args .steps) (s .args .terms .now) (s .pre .0) (s .args .c) (h .loop .i) (h .loop .inv .0) j)),
+      (omega (arith, ap length (front h), length-table (grade h) (h .loop .i)), λ j. rw (front h) (earlier-le (s .args .logic) (s .args .terms .now) (s .pre .0) (s .args .c) (h .loop .i) (h .loop .inv .0) j)),
     )
 
 slice-write-row : tie.Need-slice-write-row Inv-loop μ-loop
@@ -75,9 +75,13 @@ loop-again c =
     let h = c .before .before .before .before .before in
     let s = c .before .before .before .before .before .before .before .before in (
       omega arith,
-      rw (c .before .term-grade .ensures ∙ grade-next (s .args .steps) (s .args .terms .now) (s .pre .0) (s .args .c) (h .loop .i) (h .loop .rest) _ _ (omega arith) (front h) (h .loop .inv .2) (c .before .before .before .lowest-digit .ensures), h .loop .inv .1)
+      rw (
+        c .before .term-grade .ensures ∙ grade-next (s .args .logic) (s .args .terms .now) (s .pre .0) (s .args .c) (h .loop .i) (h .loop .rest) _ _ (omega arith) (front h) (h .loop .inv .2)
+            (c .before .before .before .lowest-digit .ensures),
+        h .loop .inv .1,
+      )
           (set-filled (grade h) (s .args .row .now) (h .loop .i) (omega arith)),
-      rw (c .rest-after .ensures, h .loop .inv .2) (rest-next (s .args .steps) (s .args .terms .now) (s .args .c) (h .loop .i) (omega arith)),
+      rw (c .rest-after .ensures, h .loop .inv .2) (rest-next (s .args .logic .steps) (s .args .terms .now) (s .args .c) (h .loop .i) (omega arith)),
     )
 
 same-length : tie.Need-same-length Inv-loop μ-loop
@@ -87,7 +91,7 @@ returns : tie.Need-returns Inv-loop μ-loop
 returns c =
     let s = c .before .before .before .before in
     let e : c .before .loop .i ≡ termCount (s .args .terms .now) = omega arith in
-    rw (row-terms (s .args .steps) (s .args .terms .now) (s .args .c), ← e) (c .before .loop .inv .1)
+    rw (row-terms (s .args .logic) (s .args .terms .now) (s .args .c), ← e) (c .before .loop .inv .1)
 
 pub fill-row-spec : {M : Type 1} → statement M
 fill-row-spec =

@@ -1,7 +1,7 @@
 -- `grades::grade_of` meets its contract.
 -- Assumes nothing.
 use borrow.Author.Needs.{needs}
-use Rattle.semantics.specs.Interpretations.{graded}
+use Rattle.gradings.specs.Gradings.{grading}
 use Rattle.sections.specs.Terms.{termsOf}
 use Rattle.sections.proofs.Terms.{length-terms}
 use Rattle.grades.proofs.Rows.{front-grades}
@@ -20,7 +20,7 @@ array-read-result c = search needs
 returns : tie.Need-returns
 returns c =
     let s = c .before .before .before .before in
-    rw (c .before .fill-row .ensures) (front-grades (graded (s .args .steps) (termsOf (s .args .terms .now))) (s .args .c) _ (s .args .i) (rw length-terms (s .pre .1 .1)))
+    rw (c .before .fill-row .ensures) (front-grades (grading (s .args .logic) (termsOf (s .args .terms .now))) (s .args .c) _ (s .args .i) (rw length-terms (s .pre .1 .1)))
 
 pub grade-of-spec : {M : Type 1} → statement M
 grade-of-spec =

@@ -2,10 +2,10 @@
 -- Assumes nothing.
 use mathlib.Core.Path.{_∙_}
 use borrow.Author.Needs.{needs}
-use Rattle.semantics.specs.Interpretations.{graded}
+use Rattle.gradings.specs.Gradings.{grading}
 use Rattle.sections.specs.Terms.{termsOf}
 use Rattle.sections.proofs.Terms.{terms-ordered}
-use Rattle.grades.proofs.Rows.{front-grades, linkOfRows-link}
+use Rattle.grades.proofs.Rows.{front-grades, rows-between}
 use Rattle.grades.proofs.link_of.Statement.{statement}
 use Rattle.grades.proofs.link_of.Tie as tie
 
@@ -33,10 +33,12 @@ link-of-rows-requires c κs = search needs
 returns : tie.Need-returns
 returns c =
     let s = c .before .before .before .before .before .before .before .before .before .before in
-    let G = graded (s .args .steps) (termsOf (s .args .terms .now)) in
+    let G = grading (s .args .logic) (termsOf (s .args .terms .now)) in
+    let f = c .before .before .before .before .before .before .before .fill-row in
+    let g = c .before .before .before .before .fill-row2 in
     c .link-of-rows .ensures
-    ∙ linkOfRows-link (s .args .steps) (termsOf (s .args .terms .now)) (terms-ordered (s .args .terms .now) (s .pre .0)) (s .args .role) (s .args .c) (s .args .d) _ _
-    (λ i h. rw (c .before .before .before .before .before .before .before .fill-row .ensures) (front-grades G (s .args .c) _ i h)) (λ i h. rw (c .before .before .before .before .fill-row2 .ensures) (front-grades G (s .args .d) _ i h))
+    ∙ rows-between (s .args .logic) (termsOf (s .args .terms .now)) (terms-ordered (s .args .terms .now) (s .pre .0)) (s .args .role) (s .args .c) (s .args .d) (f .last .1 .1 .1 .0) (g .last .1 .1 .1 .0)
+    (λ i h. rw (f .ensures) (front-grades G (s .args .c) _ i h)) (λ i h. rw (g .ensures) (front-grades G (s .args .d) _ i h))
 
 pub link-of-spec : {M : Type 1} → statement M
 link-of-spec =

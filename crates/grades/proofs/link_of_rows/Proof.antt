@@ -6,21 +6,23 @@ use native.Mathlib.Omega.{arith}
 use borrow.Author.Needs.{needs}
 use Rattle.chain.specs.Search.{greatest}
 use Rattle.chain.proofs.Search.{greatest-le, greatest-yes, greatest-no}
+use Rattle.semantics.specs.Links.{allows?, linkBetween}
+use Rattle.semantics.proofs.Links.{between-greatest}
+use Rattle.gradings.specs.Gradings.{grading}
 use Rattle.sections.specs.Terms.{termsOf}
-use Rattle.grades.specs.Rows.{rowsAllow?, linkOfRows}
-use Rattle.grades.proofs.Rows.{linkOfRows-greatest}
+use Rattle.grades.specs.Rows.{entry}
 use Rattle.grades.proofs.link_of_rows.Statement.{statement}
 use Rattle.grades.proofs.link_of_rows.Tie as tie
 
 abbrev Inv-loop : tie.InvT-loop
-Inv-loop terms steps role first second level₀ level =
-    (level ≤ steps) × (linkOfRows steps (termsOf terms) role first second ≡ greatest (rowsAllow? steps (termsOf terms) role first second) level)
+Inv-loop terms logic role first second level₀ level =
+    (level ≤ logic .steps) × (linkBetween (grading logic (termsOf terms)) role (entry first) (entry second) ≡ greatest (allows? (grading logic (termsOf terms)) role (entry first) (entry second)) level)
 
 abbrev μ-loop : tie.MeasureT-loop
-μ-loop terms steps role first second level₀ level = level
+μ-loop terms logic role first second level₀ level = level
 
 loop-holds : tie.Need-loop-holds Inv-loop μ-loop
-loop-holds c = (omega arith, linkOfRows-greatest _ _ _ _ _)
+loop-holds c = (omega arith, between-greatest _ _ _ _)
 
 rows-allow-requires : tie.Need-rows-allow-requires Inv-loop μ-loop
 rows-allow-requires c κs = search needs
@@ -40,7 +42,7 @@ loop-again c = (omega arith, c .before .before .before .loop .inv .1 ∙ greates
 returns-2 : tie.Need-returns-2 Inv-loop μ-loop
 returns-2 c =
     let s = c .before .before .before .before .before in
-    omega (arith, c .before .loop .inv .1, greatest-le (rowsAllow? (s .args .steps) (termsOf (s .args .terms .now)) (s .args .role) (s .args .first .now) (s .args .second .now)) (c .before .loop .level))
+    omega (arith, c .before .loop .inv .1, greatest-le (allows? (grading (s .args .logic) (termsOf (s .args .terms .now))) (s .args .role) (entry (s .args .first .now)) (entry (s .args .second .now))) (c .before .loop .level))
 
 pub link-of-rows-spec : {M : Type 1} → statement M
 link-of-rows-spec =

@@ -4,7 +4,7 @@ use mathlib.Core.Path.{_≡_, sym, ap, subst, _∙_}
 use native.Mathlib.Omega.{arith}
 use lib.ListN.{length}
 use borrow.Author.Needs.{needs}
-use Rattle.semantics.specs.Interpretations.{graded}
+use Rattle.gradings.specs.Gradings.{grading}
 use Rattle.sections.specs.Terms.{termsOf}
 use Rattle.grades.specs.Rows.{HasGrades}
 use Rattle.grades.proofs.Rows.{front-grades, row-part, length-rowAt, put-before, put-here}
@@ -37,7 +37,7 @@ returns c =
     let s = c .before .before .before .before .before .before in
     let a = s .args in
     let f = c .before .before .fill-row in
-    let G = graded (a .steps) (termsOf (a .terms .now)) in
+    let G = grading (a .logic) (termsOf (a .terms .now)) in
     let row = f .last .1 .1 .1 .0 in
     let long : length row ≡ 64 = f .kept .1 .1 .1 .0 ∙ ap length (row-part (a .rows .now) (a .k)) ∙ length-rowAt (a .rows .now) (a .k) (s .pre .1 .1) in (
       put-before (a .rows .now) row _ (a .k) (omega (arith, s .pre .1 .1)),

@@ -40,8 +40,8 @@ add-b c = search needs
 child-grade-requires : tie.Need-child-grade-requires
 child-grade-requires c κs = (omega arith, range (c .before .before .before .before) 1 (c .match .keys1))
 
-complement-requires : tie.Need-complement-requires
-complement-requires c κs =
+negation-requires : tie.Need-negation-requires
+negation-requires c κs =
     let s = c .before .before .before .before .before in
     omega (arith, c .child-grade .ensures, s .pre .1 .1 (aAt (s .args .terms .now) (number s)))
 
@@ -51,8 +51,10 @@ child-grade-requires-2 c κs = (omega arith, range (c .before .before .before .b
 child-grade-requires-3 : tie.Need-child-grade-requires-3
 child-grade-requires-3 c κs = (omega arith, range (c .before .before .before .before .before) 2 (c .before .match .keys2) .1)
 
-lesser-requires : tie.Need-lesser-requires
-lesser-requires c κs = search needs
+conjunction-requires : tie.Need-conjunction-requires
+conjunction-requires c κs =
+    let s = c .before .before .before .before .before .before in
+    omega (arith, c .before .child-grade2 .ensures, s .pre .1 .1 (aAt (s .args .terms .now) (number s)))
 
 child-grade-requires-4 : tie.Need-child-grade-requires-4
 child-grade-requires-4 c κs = (omega arith, range (c .before .before .before .before) 3 (c .match .keys3) .0)
@@ -60,17 +62,19 @@ child-grade-requires-4 c κs = (omega arith, range (c .before .before .before .b
 child-grade-requires-5 : tie.Need-child-grade-requires-5
 child-grade-requires-5 c κs = (omega arith, range (c .before .before .before .before .before) 3 (c .before .match .keys3) .1)
 
-greater-requires : tie.Need-greater-requires
-greater-requires c κs = search needs
+disjunction-requires : tie.Need-disjunction-requires
+disjunction-requires c κs =
+    let s = c .before .before .before .before .before .before in
+    omega (arith, c .before .child-grade4 .ensures, s .pre .1 .1 (aAt (s .args .terms .now) (number s)))
 
 returns : tie.Need-returns
-returns c = rw (c .complement .ensures, c .before .child-grade .ensures) (grade-kind _ _ _ _ 1 (c .before .before .match .keys1))
+returns c = rw (c .negation .ensures, c .before .child-grade .ensures) (grade-kind _ _ _ _ 1 (c .before .before .match .keys1))
 
 returns-2 : tie.Need-returns-2
-returns-2 c = rw (c .lesser .ensures, c .before .child-grade3 .ensures, c .before .before .child-grade2 .ensures) (grade-kind _ _ _ _ 2 (c .before .before .before .match .keys2))
+returns-2 c = rw (c .conjunction .ensures, c .before .child-grade3 .ensures, c .before .before .child-grade2 .ensures) (grade-kind _ _ _ _ 2 (c .before .before .before .match .keys2))
 
 returns-3 : tie.Need-returns-3
-returns-3 c = rw (c .greater .ensures, c .before .child-grade5 .ensures, c .before .before .child-grade4 .ensures) (grade-kind _ _ _ _ 3 (c .before .before .before .match .keys3))
+returns-3 c = rw (c .disjunction .ensures, c .before .child-grade5 .ensures, c .before .before .child-grade4 .ensures) (grade-kind _ _ _ _ 3 (c .before .before .before .match .keys3))
 
 returns-4 : tie.Need-returns-4
 returns-4 c = grade-kind _ _ _ _ 6 (c .match .keys4)
@@ -94,13 +98,13 @@ term-grade-spec =
     mul-b
     add-b
     child-grade-requires
-    complement-requires
+    negation-requires
     child-grade-requires-2
     child-grade-requires-3
-    lesser-requires
+    conjunction-requires
     child-grade-requires-4
     child-grade-requires-5
-    greater-requires
+    disjunction-requires
     returns
     returns-2
     returns-3

@@ -11,11 +11,11 @@ use Rattle.grids.proofs.fill_column.Statement.{statement}
 use Rattle.grids.proofs.fill_column.Tie as tie
 
 abbrev Inv-loop : tie.InvT-loop
-Inv-loop terms i steps n a names links values₀ e₀ values e =
-    (e ≤ n) × (length values ≡ length values₀) × WorkedTo terms steps n a names links i values × WorkedIn terms steps n a names links i e values
+Inv-loop terms i logic n a names links values₀ e₀ values e =
+    (e ≤ n) × (length values ≡ length values₀) × WorkedTo terms logic n a names links i values × WorkedIn terms logic n a names links i e values
 
 abbrev μ-loop : tie.MeasureT-loop
-μ-loop terms i steps n a names links values₀ e₀ values e = n - e
+μ-loop terms i logic n a names links values₀ e₀ values e = n - e
 
 -- the cell of a turn is within the columns
 room : (c : tie.In-loop Inv-loop μ-loop)
@@ -67,7 +67,7 @@ returns : tie.Need-returns Inv-loop μ-loop
 returns c =
     let s = c .before .before .before .before .before .before in
     let t = c .before .loop in
-    worked-column (s .args .terms .now) (s .args .steps) (s .args .n) (s .args .a) (s .args .names .now) (s .args .links .now) (s .args .i) (t .values)
+    worked-column (s .args .terms .now) (s .args .logic) (s .args .n) (s .args .a) (s .args .names .now) (s .args .links .now) (s .args .i) (t .values)
     (t .inv .2) (λ js e l. t .inv .3 js e (omega (arith, c .loop-test .left, t .inv .0)))
 
 pub fill-column-spec : {M : Type 1} → statement M

@@ -1,26 +1,14 @@
 -- `grids::grade` meets its contract. Each kind is the row of the table for it.
 -- Assumes nothing.
-use mathlib.Core.Path.{_≡_, refl, _∙_}
-use Prim.Native.Nat.{ℕ}
+use mathlib.Core.Path.{_∙_}
+use mathlib.Core.Logic.{⊎-elim}
+use Prim.Native.Nat.{_≤_}
 use native.Mathlib.Omega.{arith}
 use borrow.Author.Needs.{needs}
-use Rattle.sections.specs.Terms.{termOf, kindAt, aAt, bAt, termAt}
-use Rattle.grids.specs.Workable.{gradeFrom}
-use Rattle.grids.proofs.Workable.{grade-kind, name-below, reached, cell-le}
+use Rattle.sections.specs.Terms.{kindAt, aAt, bAt}
+use Rattle.grids.proofs.Workable.{grade-kind, grade-quantified, name-below, reached, cell-le}
 use Rattle.grids.proofs.grade.Statement.{statement}
 use Rattle.grids.proofs.grade.Tie as tie
-
--- the grade, where the kind is known
-kinded : (s : tie.Start) (k : ℕ) → kindAt (s .args .terms .now) (s .args .i) ≡ k
-    → gradeFrom (s .args .steps) (s .args .n) (s .args .a) (s .args .names .now) (s .args .links .now) (s .args .values .now) (s .args .i)
-    (termOf k (aAt (s .args .terms .now) (s .args .i)) (bAt (s .args .terms .now) (s .args .i))) (s .args .e)
-    ≡ gradeFrom (s .args .steps) (s .args .n) (s .args .a) (s .args .names .now) (s .args .links .now) (s .args .values .now) (s .args .i)
-    (termAt (s .args .terms .now) (s .args .i)) (s .args .e)
-kinded s =
-    let t = s .args .terms .now in
-    let i = s .args .i in
-    grade-kind (kindAt t i) (aAt t i) (bAt t i) (s .args .steps) (s .args .n) (s .args .a) (s .args .names .now) (s .args .links .now)
-    (s .args .values .now) i (s .args .e)
 
 mul-kind : tie.Need-mul-kind
 mul-kind c = search needs
@@ -49,49 +37,55 @@ shared-slice-read-y c = search needs
 name-grade-requires : tie.Need-name-grade-requires
 name-grade-requires c κs =
     let s = c .before .before .before .before .before .before .before .before in
-    name-below (s .pre .0 .1) (s .args .i) (s .pre .1 .0 .0) (s .args .e) (s .pre .1 .0 .1) (c .if1 .taken)
+    name-below (s .pre .0 .1) (s .args .i) (s .pre .1 .0 .0) (s .args .e) (s .pre .1 .0 .1) (c .match .keys1)
 
-returns : tie.Need-returns
-returns c = c .name-grade .ensures ∙ kinded (c .before .before .before .before .before .before .before .before .before) 0 (c .before .if1 .taken)
-
-some-at-requires : tie.Need-some-at-requires
-some-at-requires c κs =
-    let s = c .before .before .before .before .before .before .before .before .before in
-    reached (s .pre .0 .1) (s .args .i) (s .pre .1 .0 .0) (s .args .values .now) (s .pre .1 .0 .2) (s .args .e) (s .pre .1 .0 .1) 4
-    (c .if2 .taken) refl (λ h. h .1)
-
-returns-2 : tie.Need-returns-2
-returns-2 c =
+taken-at-requires : tie.Need-taken-at-requires
+taken-at-requires c κs =
     let s = c .before .before .before .before .before .before .before .before .before .before in
-    c .some-at .ensures (s .args .steps) ∙ kinded s 4 (c .before .if2 .taken)
-
-all-at-requires : tie.Need-all-at-requires
-all-at-requires c κs =
-    let s = c .before .before .before .before .before .before .before .before .before .before in (
-      reached (s .pre .0 .1) (s .args .i) (s .pre .1 .0 .0) (s .args .values .now) (s .pre .1 .0 .2) (s .args .e) (s .pre .1 .0 .1) 5
-          (c .if3 .taken) refl (λ h. h .1),
+    let lo = c .before .if1 .left in
+    let hi : kindAt (s .args .terms .now) (s .args .i) ≤ 5 = omega (arith, c .if2 .taken) in (
+      (lo, hi, reached (s .pre .0 .1) (s .args .i) (s .pre .1 .0 .0) (s .args .values .now) (s .pre .1 .0 .2) (s .args .e) (s .pre .1 .0 .1) lo hi),
       s .pre .0 .1 .links-le,
     )
 
-returns-3 : tie.Need-returns-3
-returns-3 c = c .all-at .ensures ∙ kinded (c .before .before .before .before .before .before .before .before .before .before .before) 5 (c .before .if3 .taken)
-
 plain-grade-requires : tie.Need-plain-grade-requires
 plain-grade-requires c κs =
-    let s = c .before .before .before .before .before .before .before .before .before .before in
+    let s = c .before .before .before .before .before .before .before .before .before in
     let w = s .pre .0 .1 in
     let i = s .pre .1 .0 .0 in
     let e = s .pre .1 .0 .1 in (
       (omega (arith, w .few-terms), omega (arith, w .few-elements), w .right (s .args .i) i .0 .0),
       (
         λ j h. cell-le w (s .args .i) (s .args .values .now) (omega arith) (s .pre .1 .1) j h (s .args .e) e,
-        (c .before .before .if1 .left, c .before .if2 .left, c .if3 .left),
+        (
+          c .before .match .rest .1,
+          λ k. ⊎-elim (λ t. omega (arith, t .taken)) (λ u. omega (arith, u .1 .left)) (c .if1 .came),
+          λ k. ⊎-elim (λ t. omega (arith, t .taken)) (λ u. omega (arith, u .1 .left)) (c .if1 .came),
+        ),
       ),
     )
 
-returns-4 : tie.Need-returns-4
-returns-4 c =
+returns : tie.Need-returns
+returns c =
+    let s = c .before .before .before .before .before .before .before .before .before in
+    let t = s .args .terms .now in
+    let i = s .args .i in
+    c .name-grade .ensures
+    ∙ grade-kind (kindAt t i) (aAt t i) (bAt t i) (s .args .logic) (s .args .n) (s .args .a) (s .args .names .now) (s .args .links .now)
+    (s .args .values .now) i (s .args .e) 0 (c .before .match .keys1)
+
+returns-2 : tie.Need-returns-2
+returns-2 c =
     let s = c .before .before .before .before .before .before .before .before .before .before .before in
+    let t = s .args .terms .now in
+    let i = s .args .i in
+    c .taken-at .ensures
+    ∙ grade-quantified (kindAt t i) (aAt t i) (bAt t i) (s .args .logic) (s .args .n) (s .args .a) (s .args .names .now) (s .args .links .now)
+    (s .args .values .now) i (s .args .e) (c .before .before .if1 .left) (omega (arith, c .before .if2 .taken))
+
+returns-3 : tie.Need-returns-3
+returns-3 c =
+    let s = c .before .before .before .before .before .before .before .before .before .before in
     c .plain-grade .ensures (s .args .n) (s .args .a) (s .args .names .now) (s .args .links .now)
 
 pub grade-spec : {M : Type 1} → statement M
@@ -107,10 +101,8 @@ grade-spec =
     add-y
     shared-slice-read-y
     name-grade-requires
-    returns
-    some-at-requires
-    returns-2
-    all-at-requires
-    returns-3
+    taken-at-requires
     plain-grade-requires
-    returns-4)
+    returns
+    returns-2
+    returns-3)

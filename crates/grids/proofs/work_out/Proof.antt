@@ -12,11 +12,11 @@ use Rattle.grids.proofs.work_out.Statement.{statement}
 use Rattle.grids.proofs.work_out.Tie as tie
 
 abbrev Inv-loop : tie.InvT-loop
-Inv-loop terms steps n a roles names links values₀ count i₀ values i =
-    (i ≤ termCount terms) × (length values ≡ length values₀) × WorkedTo terms steps n a names links i values
+Inv-loop terms logic n a roles names links values₀ count i₀ values i =
+    (i ≤ termCount terms) × (length values ≡ length values₀) × WorkedTo terms logic n a names links i values
 
 abbrev μ-loop : tie.MeasureT-loop
-μ-loop terms steps n a roles names links values₀ count i₀ values i = termCount terms - i
+μ-loop terms logic n a roles names links values₀ count i₀ values i = termCount terms - i
 
 loop-holds : tie.Need-loop-holds Inv-loop μ-loop
 loop-holds c = (omega arith, omega arith, λ js. below-none _)

@@ -6,8 +6,8 @@ use native.Mathlib.Omega.{arith}
 use lib.ListN.{length, getD}
 use borrow.Author.Count.{below-none}
 use borrow.Author.Needs.{needs}
-use Rattle.semantics.specs.Interpretations.{graded}
 use Rattle.sections.specs.Terms.{termsOf}
+use Rattle.gradings.specs.Gradings.{grading}
 use Rattle.grades.specs.Rows.{HasGrades, rowAt}
 use Rattle.grades.proofs.Rows.{each-row-more}
 use Rattle.models.specs.Rows.{HoldsRows}
@@ -15,10 +15,10 @@ use Rattle.models.proofs.fill_rows.Statement.{statement}
 use Rattle.models.proofs.fill_rows.Tie as tie
 
 abbrev Inv-loop : tie.InvT-loop
-Inv-loop terms steps types rows₀ e₀ rows e = (e ≤ length types) × (length rows ≡ length rows₀) × HoldsRows (graded steps (termsOf terms)) types e rows
+Inv-loop terms logic types rows₀ e₀ rows e = (e ≤ length types) × (length rows ≡ length rows₀) × HoldsRows (grading logic (termsOf terms)) types e rows
 
 abbrev μ-loop : tie.MeasureT-loop
-μ-loop terms steps types rows₀ e₀ rows e = length types - e
+μ-loop terms logic types rows₀ e₀ rows e = length types - e
 
 loop-holds : tie.Need-loop-holds Inv-loop μ-loop
 loop-holds c = (omega arith, omega arith, below-none _)
@@ -48,7 +48,7 @@ loop-again c =
     let a = c .before .before .before .before .before .before .before .before .before .before .before .args in
     let t = c .before .before .before .before .before .before .before .loop in
     let f = c .before .before .put-row in
-    let G = graded (a .steps) (termsOf (a .terms .now)) in
+    let G = grading (a .logic) (termsOf (a .terms .now)) in
     let rows = f .last .1 .1 .1 .0 in (
       omega arith,
       f .kept .1 .1 .1 .0 ∙ t .inv .1,

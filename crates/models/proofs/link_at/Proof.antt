@@ -1,10 +1,7 @@
 -- `models::link_at` meets its contract. The rows are lent, 64 grades each.
 -- Assumes nothing.
-use mathlib.Core.Path.{ap₂, _∙_}
 use native.Mathlib.Omega.{arith}
 use borrow.Author.Needs.{needs}
-use Rattle.sections.specs.Terms.{termsOf}
-use Rattle.grades.specs.Rows.{linkOfRows}
 use Rattle.grades.proofs.Rows.{length-rowAt}
 use Rattle.models.proofs.link_at.Statement.{statement}
 use Rattle.models.proofs.link_at.Tie as tie
@@ -26,10 +23,7 @@ link-of-rows-requires c κs =
     )
 
 returns : tie.Need-returns
-returns c =
-    let s = c .before .before .before .before .before in
-    c .link-of-rows .ensures
-    ∙ ap₂ (linkOfRows (s .args .steps) (termsOf (s .args .terms .now)) (s .args .role)) (c .before .before .row-at .ensures) (c .before .row-at2 .ensures)
+returns c = rw (← c .before .before .row-at .ensures, ← c .before .row-at2 .ensures) (c .link-of-rows .ensures)
 
 pub link-at-spec : {M : Type 1} → statement M
 link-at-spec = tie.close (tie.spec row-at-requires row-at-requires-2 link-of-rows-requires returns)

@@ -82,12 +82,24 @@ cast-write-word-2 c =
 write-word-requires-3 : tie.Need-write-word-requires-3
 write-word-requires-3 c κs =
     let s = c .before .before .before .before .before .before .before .before .before .before .before .before .before .before .before .before in
-    omega (arith, c .before .before .before .write-word2 .kept, c .before .before .before .before .before .before .before .write-word .kept, length-sets (s .args .head .now) 0 (1 ∷ s .args .steps ∷ s .args .p .elements ∷ s .args .p .names ∷ s .args .p .roles ∷ s .args .p .individuals ∷ []), s .pre .1)
+    omega (
+      arith,
+      c .before .before .before .write-word2 .kept,
+      c .before .before .before .before .before .before .before .write-word .kept,
+      length-sets (s .args .head .now) 0 (1 ∷ s .args .steps ∷ s .args .p .elements ∷ s .args .p .names ∷ s .args .p .roles ∷ s .args .p .individuals ∷ []),
+      s .pre .1,
+    )
 
 same-length : tie.Need-same-length
 same-length c =
     let s = c .before .before .before .before .before .before .before .before .before .before .before .before .before .before .before .before .before .before .before in
-    omega (arith, c .before .before .write-word3 .kept, c .before .before .before .before .before .before .write-word2 .kept, c .before .before .before .before .before .before .before .before .before .before .write-word .kept, length-sets (s .args .head .now) 0 (1 ∷ s .args .steps ∷ s .args .p .elements ∷ s .args .p .names ∷ s .args .p .roles ∷ s .args .p .individuals ∷ []))
+    omega (
+      arith,
+      c .before .before .write-word3 .kept,
+      c .before .before .before .before .before .before .write-word2 .kept,
+      c .before .before .before .before .before .before .before .before .before .before .write-word .kept,
+      length-sets (s .args .head .now) 0 (1 ∷ s .args .steps ∷ s .args .p .elements ∷ s .args .p .names ∷ s .args .p .roles ∷ s .args .p .individuals ∷ []),
+    )
 
 returns : tie.Need-returns
 unfolding flatMap

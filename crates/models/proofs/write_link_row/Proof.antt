@@ -14,12 +14,12 @@ use Rattle.models.proofs.write_link_row.Statement.{statement}
 use Rattle.models.proofs.write_link_row.Tie as tie
 
 abbrev Inv-loop : tie.InvT-loop
-Inv-loop terms steps role rows e body₀ f₀ body f =
+Inv-loop terms logic role rows e body₀ f₀ body f =
     (f ≤ length body₀) × (length body ≡ length body₀)
-    × (body ≡ table (λ g. linkIn steps (termsOf terms) rows role e g) f ++ drop f body₀)
+    × (body ≡ table (λ g. linkIn logic (termsOf terms) rows role e g) f ++ drop f body₀)
 
 abbrev μ-loop : tie.MeasureT-loop
-μ-loop terms steps role rows e body₀ f₀ body f = length body₀ - f
+μ-loop terms logic role rows e body₀ f₀ body f = length body₀ - f
 
 loop-holds : tie.Need-loop-holds Inv-loop μ-loop
 loop-holds c = (omega arith, omega arith, zero-filled _ _)
@@ -40,7 +40,7 @@ loop-again : tie.Need-loop-again Inv-loop μ-loop
 loop-again c =
     let s = c .before .before .before .before .before .before in
     let t = c .before .before .loop in
-    let entry : ℕ → ℕ = λ g. linkIn (s .args .steps) (termsOf (s .args .terms .now)) (s .args .rows .now) (s .args .role) (s .args .e) g in (
+    let entry : ℕ → ℕ = λ g. linkIn (s .args .logic) (termsOf (s .args .terms .now)) (s .args .rows .now) (s .args .role) (s .args .e) g in (
       omega arith,
       simp length-set (t .inv .1),
       rw (c .link-at .ensures)
@@ -54,7 +54,7 @@ returns : tie.Need-returns Inv-loop μ-loop
 returns c =
     let s = c .before .before .before .before .before in
     let t = c .before .loop in
-    let entry : ℕ → ℕ = λ g. linkIn (s .args .steps) (termsOf (s .args .terms .now)) (s .args .rows .now) (s .args .role) (s .args .e) g in
+    let entry : ℕ → ℕ = λ g. linkIn (s .args .logic) (termsOf (s .args .terms .now)) (s .args .rows .now) (s .args .role) (s .args .e) g in
     table-filled entry (t .f) (s .args .body .now) (t .body) (t .inv .2) (omega arith)
 
 pub write-link-row-spec : {M : Type 1} → statement M

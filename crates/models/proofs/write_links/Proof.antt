@@ -17,16 +17,17 @@ use Rattle.models.proofs.write_links.Statement.{statement}
 use Rattle.models.proofs.write_links.Tie as tie
 
 abbrev Inv-loop : tie.InvT-loop
-Inv-loop terms steps roles rows n body₀ r₀ body r =
+Inv-loop terms logic roles rows n body₀ r₀ body r =
     (r ≤ roles) × (length body ≡ length body₀)
-    × (body ≡ flatMap (squareBy steps (termsOf terms) rows n) (from 0 r) ++ drop (r * (n * n)) body₀)
+    × (body ≡ flatMap (squareBy logic (termsOf terms) rows n) (from 0 r) ++ drop (r * (n * n)) body₀)
 
 abbrev μ-loop : tie.MeasureT-loop
-μ-loop terms steps roles rows n body₀ r₀ body r = roles - r
+μ-loop terms logic roles rows n body₀ r₀ body r = roles - r
 
 -- the stretch of a turn is within the body
 block-within : (c : tie.In-loop Inv-loop μ-loop)
-    → c .before .loop .r * (c .before .before .before .before .before .args .n * c .before .before .before .before .before .args .n) + c .before .before .before .before .before .args .n * c .before .before .before .before .before .args .n ≤ length (c .before .loop .body)
+    → c .before .loop .r * (c .before .before .before .before .before .args .n * c .before .before .before .before .before .args .n)
+    + c .before .before .before .before .before .args .n * c .before .before .before .before .before .args .n ≤ length (c .before .loop .body)
 block-within c =
     let s = c .before .before .before .before .before in
     omega (arith, block-fits (s .args .n * s .args .n) (c .before .loop .r) (s .args .roles) (c .loop-test .taken), c .before .loop .inv .1, s .pre .1 .4)
@@ -36,8 +37,8 @@ loop-holds c =
     let s = c .before .before .before in (
       omega arith,
       omega arith,
-      blocks-none (squareBy (s .args .steps) (termsOf (s .args .terms .now)) (s .args .rows .now) (s .args .n)) (s .args .n * s .args .n)
-          (length-square (s .args .steps) (termsOf (s .args .terms .now)) (s .args .rows .now) (s .args .n)) (s .args .body .now),
+      blocks-none (squareBy (s .args .logic) (termsOf (s .args .terms .now)) (s .args .rows .now) (s .args .n)) (s .args .n * s .args .n)
+          (length-square (s .args .logic) (termsOf (s .args .terms .now)) (s .args .rows .now) (s .args .n)) (s .args .body .now),
     )
 
 mul-start : tie.Need-mul-start Inv-loop μ-loop
@@ -84,8 +85,8 @@ loop-again c =
     let t = c .before .before .before .before .before .loop in (
       omega arith,
       c .before .body .given .1 ∙ t .inv .1,
-      blocks-next (squareBy (s .args .steps) (termsOf (s .args .terms .now)) (s .args .rows .now) (s .args .n)) (s .args .n * s .args .n)
-          (length-square (s .args .steps) (termsOf (s .args .terms .now)) (s .args .rows .now) (s .args .n)) (t .r) (t .body)
+      blocks-next (squareBy (s .args .logic) (termsOf (s .args .terms .now)) (s .args .rows .now) (s .args .n)) (s .args .n * s .args .n)
+          (length-square (s .args .logic) (termsOf (s .args .terms .now)) (s .args .rows .now) (s .args .n)) (t .r) (t .body)
           (s .args .body .now) _ (t .inv .2)
           (c .before .before .write-square .ensures),
     )

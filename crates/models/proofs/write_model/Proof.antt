@@ -40,7 +40,7 @@ returns : tie.Need-returns
 returns c =
     let s = c .before .before .before .before .before .before .before .before .before .before .before .before in
     let rows = c .before .before .before .before .before .before .fill-rows in
-    rows-sheet (s .args .steps) (s .args .terms .now) (s .pre .0) _ (s .args .types .now) (s .args .seats .now) (rows .ensures) (s .args .names)
+    rows-sheet (s .args .logic) (s .args .terms .now) (s .pre .0) _ (s .args .types .now) (s .args .seats .now) (rows .ensures) (s .args .steps) (s .args .names)
     (s .args .roles) (length (s .args .seats .now)) _ _ (c .before .before .write-sheet .ensures)
 
 pub write-model-spec : {M : Type 1} → statement M

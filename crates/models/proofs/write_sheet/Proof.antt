@@ -102,7 +102,7 @@ returns c =
     let head = names .before .before .before .before in
     let offsets = head .before .before in
     let s = offsets .before .before .before .before .before .before .before .before in
-    sheet-written (s .args .steps) (s .args .terms .now) (s .args .rows .now) (s .args .types .now) (s .args .seats .now) (s .args .p)
+    sheet-written (s .args .steps) (s .args .logic) (s .args .terms .now) (s .args .rows .now) (s .args .types .now) (s .args .seats .now) (s .args .p)
     (s .pre .1 .1 .0) (s .pre .1 .1 .1) (s .args .sheet .now) _ _ _ _ _ _ _ (head .write-head .ensures) (names .write-names .ensures)
     (links .write-links .ensures) (seats .write-seats .ensures) (offsets .before .before .links-at .ensures)
     (offsets .before .individuals-at .ensures) (offsets .end-at .ensures)

@@ -16,12 +16,12 @@ use Rattle.models.proofs.write_square.Statement.{statement}
 use Rattle.models.proofs.write_square.Tie as tie
 
 abbrev Inv-loop : tie.InvT-loop
-Inv-loop terms steps role rows n body₀ e₀ body e =
+Inv-loop terms logic role rows n body₀ e₀ body e =
     (e ≤ n) × (length body ≡ length body₀)
-    × (body ≡ flatMap (linkRow steps (termsOf terms) rows n role) (from 0 e) ++ drop (e * n) body₀)
+    × (body ≡ flatMap (linkRow logic (termsOf terms) rows n role) (from 0 e) ++ drop (e * n) body₀)
 
 abbrev μ-loop : tie.MeasureT-loop
-μ-loop terms steps role rows n body₀ e₀ body e = n - e
+μ-loop terms logic role rows n body₀ e₀ body e = n - e
 
 -- the stretch of a turn is within the body
 block-within : (c : tie.In-loop Inv-loop μ-loop)
@@ -35,8 +35,8 @@ loop-holds c =
     let s = c .before .before .before in (
       omega arith,
       omega arith,
-      blocks-none (linkRow (s .args .steps) (termsOf (s .args .terms .now)) (s .args .rows .now) (s .args .n) (s .args .role)) (s .args .n)
-          (length-linkRow (s .args .steps) (termsOf (s .args .terms .now)) (s .args .rows .now) (s .args .n) (s .args .role)) (s .args .body .now),
+      blocks-none (linkRow (s .args .logic) (termsOf (s .args .terms .now)) (s .args .rows .now) (s .args .n) (s .args .role)) (s .args .n)
+          (length-linkRow (s .args .logic) (termsOf (s .args .terms .now)) (s .args .rows .now) (s .args .n) (s .args .role)) (s .args .body .now),
     )
 
 mul-start : tie.Need-mul-start Inv-loop μ-loop
@@ -73,11 +73,11 @@ loop-again c =
     let t = c .before .before .before .before .before .loop in (
       omega arith,
       c .before .body .given .1 ∙ t .inv .1,
-      blocks-next (linkRow (s .args .steps) (termsOf (s .args .terms .now)) (s .args .rows .now) (s .args .n) (s .args .role)) (s .args .n)
-          (length-linkRow (s .args .steps) (termsOf (s .args .terms .now)) (s .args .rows .now) (s .args .n) (s .args .role)) (t .e) (t .body)
+      blocks-next (linkRow (s .args .logic) (termsOf (s .args .terms .now)) (s .args .rows .now) (s .args .n) (s .args .role)) (s .args .n)
+          (length-linkRow (s .args .logic) (termsOf (s .args .terms .now)) (s .args .rows .now) (s .args .n) (s .args .role)) (t .e) (t .body)
           (s .args .body .now) _ (t .inv .2)
           (c .before .before .write-link-row .ensures
-          ∙ ap (table (λ f. linkIn (s .args .steps) (termsOf (s .args .terms .now)) (s .args .rows .now) (s .args .role) (t .e) f))
+          ∙ ap (table (λ f. linkIn (s .args .logic) (termsOf (s .args .terms .now)) (s .args .rows .now) (s .args .role) (t .e) f))
           (length-part (t .body) (t .e * s .args .n) (t .e * s .args .n + s .args .n) (block-within (c .before .before .before .before)) ∙ omega arith)),
     )
 

@@ -13,10 +13,10 @@ use Rattle.network.proofs.all_met.Statement.{statement}
 use Rattle.network.proofs.all_met.Tie as tie
 
 abbrev Inv-loop : tie.InvT-loop
-Inv-loop steps s source target terms count y₀ y = (y ≤ constraintCount s) × ((z : ℕ) → z < y → Met steps (constraintAt s z) source target)
+Inv-loop logic s source target terms count y₀ y = (y ≤ constraintCount s) × ((z : ℕ) → z < y → Met logic (constraintAt s z) source target)
 
 abbrev μ-loop : tie.MeasureT-loop
-μ-loop steps s source target terms count y₀ y = constraintCount s - y
+μ-loop logic s source target terms count y₀ y = constraintCount s - y
 
 loop-holds : tie.Need-loop-holds Inv-loop μ-loop
 loop-holds c = (omega arith, below-none _)
@@ -28,12 +28,12 @@ met-requires : tie.Need-met-requires Inv-loop μ-loop
 met-requires c κs =
     let s = c .before .before .before .before .before .before in
     let w = s .pre .0 (c .before .before .loop .y) (omega arith) in
-    rw (c .constraint-at .ensures) (w .level-le, omega (arith, w .own-lt), omega (arith, w .child-lt))
+    rw (c .constraint-at .ensures) (w .kinds .0, w .kinds .1, w .level-le, omega (arith, w .own-lt), omega (arith, w .child-lt))
 
 returns : tie.Need-returns Inv-loop μ-loop
 returns c =
     let s = c .before .before .before .before .before .before .before .before in
-    let t = subst (λ (k : Constraint). Tells (c .before .met .result) (Met (s .args .steps) k (s .args .source .now) (s .args .target .now))) (c .before .before .constraint-at .ensures) (c .before .met .ensures) in
+    let t = subst (λ (k : Constraint). Tells (c .before .met .result) (Met (s .args .logic) k (s .args .source .now) (s .args .target .now))) (c .before .before .constraint-at .ensures) (c .before .met .ensures) in
     tells-no (λ h. told-no _ t (c .if1 .taken) (h (c .before .before .before .before .loop .y) (omega arith)))
 
 add-y : tie.Need-add-y Inv-loop μ-loop
@@ -45,7 +45,7 @@ loop-less c = search needs
 loop-again : tie.Need-loop-again Inv-loop μ-loop
 loop-again c =
     let s = c .before .before .before .before .before .before .before .before in
-    let t = subst (λ (k : Constraint). Tells (c .before .met .result) (Met (s .args .steps) k (s .args .source .now) (s .args .target .now))) (c .before .before .constraint-at .ensures) (c .before .met .ensures) in
+    let t = subst (λ (k : Constraint). Tells (c .before .met .result) (Met (s .args .logic) k (s .args .source .now) (s .args .target .now))) (c .before .before .constraint-at .ensures) (c .before .met .ensures) in
     (omega arith, below-more _ (c .before .before .before .before .loop .y) (c .before .before .before .before .loop .inv .1) (told-yes _ t (c .if1 .left)))
 
 returns-2 : tie.Need-returns-2 Inv-loop μ-loop

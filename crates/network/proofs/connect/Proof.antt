@@ -3,7 +3,6 @@
 use native.Mathlib.Omega.{arith}
 use borrow.Author.Needs.{needs}
 use Rattle.chain.proofs.Lists.{zeros-long, zeros-at}
-use Rattle.network.proofs.Levels.{levels-le}
 use Rattle.network.proofs.Network.{connected-network}
 use Rattle.network.proofs.connect.Statement.{statement}
 use Rattle.network.proofs.connect.Tie as tie
@@ -12,19 +11,13 @@ slice-aggregate-note-claims : tie.Need-slice-aggregate-note-claims
 slice-aggregate-note-claims c = search needs
 
 note-claims-requires : tie.Need-note-claims-requires
-note-claims-requires c κs =
-    let s = c .before .before .before .before .before in
-    let right = s .pre .1 .0 in
-    (λ i l. (right i l .0, right i l .1 .0, right i l .1 .1 .0), zeros-long 512, zeros-at 512)
+note-claims-requires c κs = let s = c .before .before .before .before .before in (s .pre .1 .0, zeros-long 512, zeros-at 512)
 
 slice-aggregate-connect-by : tie.Need-slice-aggregate-connect-by
 slice-aggregate-connect-by c = search needs
 
 connect-by-requires : tie.Need-connect-by-requires
-connect-by-requires c κs =
-    let s = c .before .before .before .before .before .before .before .before .before .before in
-    let q = s .pre .1 .1 in
-    (s .pre .0, ((q .0, omega (arith, c .before .before .before .before .note-claims .kept .1 .0, zeros-long 512), q .1, q .2, q .3), levels-le (s .args .links .now) _ (s .args .steps) (s .pre .1 .0) (c .before .before .before .before .note-claims .ensures)))
+connect-by-requires c κs = search needs
 
 same-length : tie.Need-same-length
 same-length c = search needs
@@ -35,8 +28,9 @@ same-length-2 c = search needs
 returns : tie.Need-returns
 returns c =
     let s = c .before .before .before .before .before .before .before .before .before .before .before .before .before .before .before in
-    let w = c .before .before .before .before .connect-by .ensures in
-    connected-network (s .args .steps) (s .args .terms .now) _ (s .args .links .now) _ _ (w .0) (s .pre .1 .0) (c .before .before .before .before .before .before .before .before .before .note-claims .ensures) (omega (arith, s .pre .1 .1 .1, c .before .before .before .before .connect-by .kept .1 .1 .1 .0)) (w .1)
+    let d = c .before .before .before .before .connect-by in
+    let levels = c .before .before .before .before .before .before .before .before .before .note-claims .ensures in
+    (_, connected-network (s .args .slots .now) _ (s .args .links .now) _ _ (d .ensures .0) levels (omega (arith, s .pre .1 .1, d .kept .1 .1 .0)) (d .ensures .1))
 
 pub connect-spec : {M : Type 1} → statement M
 connect-spec =

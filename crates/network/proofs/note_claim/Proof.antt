@@ -63,19 +63,13 @@ add-at-2 c = search needs
 slice-read-if1 : tie.Need-slice-read-if1
 slice-read-if1 c =
     let s = c .before .before .before .before .before .before .before .before .before .before in
-    let i = s .args .i in
-    let lk = s .args .links .now in
-    let lv = s .args .levels .now in
-    let r = s .pre .0 .1 i (s .pre .0 .0) in
+    let r = s .pre .0 .1 (s .args .i) (s .pre .0 .0) in
     omega (arith, r .0, r .1, r .2, c .before .before .before .before .before .before .wide .ensures .0, c .before .before .before .before .wide2 .ensures .0, c .before .before .wide3 .ensures .0)
 
 slice-write-levels : tie.Need-slice-write-levels
 slice-write-levels c =
     let s = c .before .before .before .before .before .before .before .before .before .before .before in
-    let i = s .args .i in
-    let lk = s .args .links .now in
-    let lv = s .args .levels .now in
-    let r = s .pre .0 .1 i (s .pre .0 .0) in
+    let r = s .pre .0 .1 (s .args .i) (s .pre .0 .0) in
     omega (arith, r .0, r .1, r .2, c .before .before .before .before .before .before .before .wide .ensures .0, c .before .before .before .before .before .wide2 .ensures .0, c .before .before .before .wide3 .ensures .0)
 
 same-length : tie.Need-same-length
@@ -84,20 +78,16 @@ same-length c = search needs
 returns : tie.Need-returns
 returns c =
     let s = c .before .before .before .before .before .before .before .before .before .before .before in
-    let i = s .args .i in
-    let lk = s .args .links .now in
-    let lv = s .args .levels .now in
-    let r = s .pre .0 .1 i (s .pre .0 .0) in
-    levels-raised lk lv i _ (omega (arith, c .before .before .before .before .before .before .before .wide .ensures .0, c .before .before .before .before .before .wide2 .ensures .0, c .before .before .before .wide3 .ensures .0)) (s .pre .0 .0) (s .pre .0 .1) (s .pre .0 .2) (s .pre .1) (c .if1 .taken)
+    levels-raised (s .args .links .now) (s .args .levels .now) (s .args .i) _
+    (omega (arith, c .before .before .before .before .before .before .before .wide .ensures .0, c .before .before .before .before .before .wide2 .ensures .0, c .before .before .before .wide3 .ensures .0))
+    (s .pre .0 .0) (s .pre .0 .1) (s .pre .0 .2) (s .pre .1) (c .if1 .taken)
 
 returns-2 : tie.Need-returns-2
 returns-2 c =
     let s = c .before .before .before .before .before .before .before .before .before .before .before in
-    let i = s .args .i in
-    let lk = s .args .links .now in
-    let lv = s .args .levels .now in
-    let r = s .pre .0 .1 i (s .pre .0 .0) in
-    levels-kept lk lv i _ (omega (arith, c .before .before .before .before .before .before .before .wide .ensures .0, c .before .before .before .before .before .wide2 .ensures .0, c .before .before .before .wide3 .ensures .0)) (s .pre .1) (c .if1 .left)
+    levels-kept (s .args .links .now) (s .args .levels .now) (s .args .i) _
+    (omega (arith, c .before .before .before .before .before .before .before .wide .ensures .0, c .before .before .before .before .before .wide2 .ensures .0, c .before .before .before .wide3 .ensures .0))
+    (s .pre .1) (c .if1 .left)
 
 pub note-claim-spec : {M : Type 1} → statement M
 note-claim-spec =

@@ -1,29 +1,21 @@
 -- `placer::fill_rows` meets its contract. The rows of the candidates below `filled` are in the table.
 -- Assumes nothing.
 use mathlib.Core.Path.{_≡_, refl, subst, _∙_}
-use mathlib.Core.List.{List}
 use Prim.Native.Nat.{ℕ, _≤_, _-_}
 use native.Mathlib.Omega.{arith}
 use lib.ListN.{length}
 use borrow.Author.Needs.{needs}
-use Rattle.grades.specs.Rows.{HasGrades}
 use Rattle.grades.proofs.Rows.{each-row-more}
-use Rattle.elimination.specs.Marks.{Marked}
-use Rattle.placer.specs.Claims.{gradingOf}
-use Rattle.placer.specs.Rows.{Rowed}
+use Rattle.placer.specs.Rows.{RowFor, Rowed}
 use Rattle.placer.proofs.fill_rows.Statement.{statement}
 use Rattle.placer.proofs.fill_rows.Tie as tie
 
--- what the table keeps of a candidate
-abbrev Kept : (N : ℕ) (ts marks : List ℕ) (c : ℕ) (row : List ℕ) → Type 0
-Kept N ts marks c row = Marked marks c → HasGrades (gradingOf N ts) c row
-
 abbrev Inv-loop : tie.InvT-loop
-Inv-loop terms steps marks count rows₀ filled₀ rows filled =
-    (filled ≤ count) × (length rows ≡ length rows₀) × Rowed steps terms marks filled rows
+Inv-loop terms logic marks count rows₀ filled₀ rows filled =
+    (filled ≤ count) × (length rows ≡ length rows₀) × Rowed logic terms marks filled rows
 
 abbrev μ-loop : tie.MeasureT-loop
-μ-loop terms steps marks count rows₀ filled₀ rows filled = count - filled
+μ-loop terms logic marks count rows₀ filled₀ rows filled = count - filled
 
 loop-holds : tie.Need-loop-holds Inv-loop μ-loop
 loop-holds c = (omega arith, refl, λ d h. absurd (omega arith))
@@ -39,10 +31,12 @@ loop-less c = search needs
 
 loop-again : tie.Need-loop-again Inv-loop μ-loop
 loop-again c =
-    let s = c .before .before .before .before .before .before .before in
-    let a = s .args in
-    let l = c .before .before .before .loop in
-    (omega arith, l .inv .1, each-row-more (Kept (a .steps) (a .terms .now) (a .marks .now)) (l .filled) (l .rows) (l .rows) refl (l .inv .2) (λ m. absurd (c .if1 .taken m)))
+    let a = c .before .before .before .before .before .before .before .args in
+    let l = c .before .before .before .loop in (
+      omega arith,
+      l .inv .1,
+      each-row-more (RowFor (a .logic) (a .terms .now) (a .marks .now)) (l .filled) (l .rows) (l .rows) refl (l .inv .2) (λ m. absurd (c .if1 .taken m)),
+    )
 
 put-row-requires : tie.Need-put-row-requires Inv-loop μ-loop
 put-row-requires c κs =
@@ -54,11 +48,14 @@ loop-less-2 c = search needs
 
 loop-again-2 : tie.Need-loop-again-2 Inv-loop μ-loop
 loop-again-2 c =
-    let s = c .before .before .before .before .before .before .before .before .before .before .before in
-    let a = s .args in
+    let a = c .before .before .before .before .before .before .before .before .before .before .before .args in
     let l = c .before .before .before .before .before .before .before .loop in
-    let f = c .before .before .put-row in
-    (omega arith, f .kept .1 .1 .1 .0 ∙ l .inv .1, each-row-more (Kept (a .steps) (a .terms .now) (a .marks .now)) (l .filled) (l .rows) (f .last .1 .1 .1 .0) (f .ensures .0) (l .inv .2) (λ _. f .ensures .1))
+    let f = c .before .before .put-row in (
+      omega arith,
+      f .kept .1 .1 .1 .0 ∙ l .inv .1,
+      each-row-more (RowFor (a .logic) (a .terms .now) (a .marks .now)) (l .filled) (l .rows) (f .last .1 .1 .1 .0) (f .ensures .0) (l .inv .2)
+          (λ _. f .ensures .1),
+    )
 
 same-length : tie.Need-same-length Inv-loop μ-loop
 same-length c = c .before .loop .inv .1
@@ -66,7 +63,7 @@ same-length c = c .before .loop .inv .1
 returns : tie.Need-returns Inv-loop μ-loop
 returns c =
     let a = c .before .before .before .before .before .args in
-    subst (λ (k : ℕ). Rowed (a .steps) (a .terms .now) (a .marks .now) k (c .before .loop .rows)) (omega arith) (c .before .loop .inv .2)
+    subst (λ (k : ℕ). Rowed (a .logic) (a .terms .now) (a .marks .now) k (c .before .loop .rows)) (omega arith) (c .before .loop .inv .2)
 
 pub fill-rows-spec : {M : Type 1} → statement M
 fill-rows-spec =

@@ -11,10 +11,11 @@ use Rattle.placer.proofs.next_fit.Statement.{statement}
 use Rattle.placer.proofs.next_fit.Tie as tie
 
 abbrev Inv-loop : tie.InvT-loop
-Inv-loop steps net ends terms count individuals table rows seats k start c₀ c = (start ≤ c) × ((e : ℕ) → start ≤ e → e < c → ¬ FitsNext steps net ends rows table seats k e)
+Inv-loop logic net ends terms count individuals table rows seats k start c₀ c =
+    (start ≤ c) × ((e : ℕ) → start ≤ e → e < c → ¬ FitsNext logic net ends rows table seats k e)
 
 abbrev μ-loop : tie.MeasureT-loop
-μ-loop steps net ends terms count individuals table rows seats k start c₀ c = count - c
+μ-loop logic net ends terms count individuals table rows seats k start c₀ c = count - c
 
 loop-holds : tie.Need-loop-holds Inv-loop μ-loop
 loop-holds c = (omega arith, λ e a b. absurd (omega arith))
@@ -22,43 +23,41 @@ loop-holds c = (omega arith, λ e a b. absurd (omega arith))
 leap-requires : tie.Need-leap-requires Inv-loop μ-loop
 leap-requires c κs =
     let s = c .before .before .before .before .before .before .before in
-    let a = s .args in
     let w = s .pre .0 in
-    let l = c .before .loop in
-    (omega (arith, s .pre .1 .0, w .problem .individuals-few), omega (arith, c .loop-test .taken, w .problem .candidates-few), w .table-long, w .gaps (a .k) (s .pre .1 .0) (l .c) (omega arith) (c .loop-test .taken))
+    let h = c .loop-test .taken in (
+      omega (arith, s .pre .1 .0, w .problem .individuals-few),
+      omega (arith, h, w .problem .candidates-few),
+      w .table-long,
+      w .gaps (s .args .k) (s .pre .1 .0) (c .before .loop .c) (omega arith) h,
+    )
 
 add-c : tie.Need-add-c Inv-loop μ-loop
-add-c c =
-    let s = c .before .before .before .before .before .before .before .before .before in
-    let a = s .args in
-    let w = s .pre .0 in
-    let l = c .before .before .before .loop in
-    omega (arith, c .before .leap .ensures .2, c .before .before .loop-test .taken, w .problem .candidates-few)
+add-c c = omega (arith, c .before .leap .ensures .2, c .before .before .loop-test .taken, c .before .before .before .before .before .before .before .before .before .pre .0 .problem .candidates-few)
 
 loop-less : tie.Need-loop-less Inv-loop μ-loop
 loop-less c = omega (arith, c .if1 .taken, c .before .before .loop-test .taken)
 
 loop-again : tie.Need-loop-again Inv-loop μ-loop
 loop-again c =
-    let s = c .before .before .before .before .before .before .before .before .before in
-    let a = s .args in
-    let w = s .pre .0 in
     let l = c .before .before .before .loop in
     (omega (arith, l .inv .0), λ e x y. dite (decLt e (l .c)) (λ z. l .inv .1 e x z) (λ z m. c .before .leap .ensures .1 e (omega arith) y (m .0)))
 
 fits-seated-requires : tie.Need-fits-seated-requires Inv-loop μ-loop
 fits-seated-requires c κs =
     let s = c .before .before .before .before .before .before .before .before .before in
-    let a = s .args in
-    let w = s .pre .0 in
-    let l = c .before .before .before .loop in
-    (w .problem .wired, (w .problem .rows-long, omega (arith, s .pre .1 .0, w .problem .individuals-few), s .pre .1 .1, omega (arith, c .before .before .loop-test .taken, w .problem .candidates-few), s .pre .1 .2))
+    let p = s .pre .0 .problem in (
+      p .wired,
+      (
+        p .rows-long,
+        omega (arith, s .pre .1 .0, p .individuals-few),
+        s .pre .1 .1,
+        omega (arith, c .before .before .loop-test .taken, p .candidates-few),
+        s .pre .1 .2,
+      ),
+    )
 
 returns : tie.Need-returns Inv-loop μ-loop
 returns c =
-    let s = c .before .before .before .before .before .before .before .before .before .before .before in
-    let a = s .args in
-    let w = s .pre .0 in
     let l = c .before .before .before .before .before .loop in
     record {
       from-start = l .inv .0;
@@ -74,19 +73,15 @@ loop-less-2 c = omega (arith, c .before .before .before .before .loop-test .take
 
 loop-again-2 : tie.Need-loop-again-2 Inv-loop μ-loop
 loop-again-2 c =
-    let s = c .before .before .before .before .before .before .before .before .before .before .before in
-    let a = s .args in
-    let w = s .pre .0 in
+    let a = c .before .before .before .before .before .before .before .before .before .before .before .args in
     let l = c .before .before .before .before .before .loop in (
       omega (arith, l .inv .0),
-      λ e x y. dite (decLt e (l .c)) (λ z. l .inv .1 e x z) (λ z m. let q : e ≡ l .c = omega arith in c .before .fits-seated .ensures .1 (c .if2 .left) (subst (λ (d : ℕ). FitsNext (a .steps) (a .net .now) (a .ends .now) (a .rows .now) (a .table .now) (a .seats .now) (a .k) d) q m .1)),
+      λ e x y. dite (decLt e (l .c)) (λ z. l .inv .1 e x z) (λ z m. let q : e ≡ l .c = omega arith in c .before .fits-seated .ensures .1 (c .if2 .left)
+          (subst (FitsNext (a .logic) (a .net .now) (a .ends .now) (a .rows .now) (a .table .now) (a .seats .now) (a .k)) q m .1)),
     )
 
 returns-2 : tie.Need-returns-2 Inv-loop μ-loop
 returns-2 c =
-    let s = c .before .before .before .before .before .before .before in
-    let a = s .args in
-    let w = s .pre .0 in
     let l = c .before .loop in
     record { from-start = l .inv .0; fits = λ h. absurd (omega arith); none = λ e x y z. l .inv .1 e x y }
 

@@ -22,11 +22,11 @@ slice-aggregate-place-in-4 c = search needs
 
 place-in-requires : tie.Need-place-in-requires
 place-in-requires c κs =
-    let s = c .before .before .before .before .before .before .before .before .before .before in
-    (s .pre .0, (s .pre .1 .0, (s .pre .1 .1 .0, (s .pre .1 .1 .1 .0, (s .pre .1 .1 .1 .1, (zeros-long 16384, zeros-long 65, zeros-at 65 0, zeros-long 1048576, zeros-long 131072, zeros-at 131072))))))
+    let s = c .before .before .before .before .before .before .before .before .before .before .before in
+    (s .pre .0, (s .pre .1, (zeros-long 4096, zeros-long 65, zeros-at 65 0, zeros-long 1048576, zeros-long 131072, zeros-at 131072)))
 
 same-length : tie.Need-same-length
-same-length c = c .before .before .before .before .before .before .place-in .kept .1 .1 .1 .1 .1 .1 .1 .1 .1 .1 .1 .0
+same-length c = c .before .before .before .before .before .before .place-in .kept .1 .1 .1 .1 .1 .1 .1 .1 .1 .1 .1 .1 .0
 
 returns : tie.Need-returns
 returns c = search needs

@@ -1,39 +1,36 @@
 -- `placer::place_at_once` meets its contract. Whatever the search finds behind those seated, it finds behind none.
 -- Assumes nothing.
-use mathlib.Core.Path.{sym, _≡_, refl, _∙_}
-use mathlib.Core.Bool.{true}
-use Prim.Native.Nat.{_≤_, _-_}
+use mathlib.Core.Path.{_≡_, refl, sym, _∙_}
+use Prim.Native.Nat.{_-_}
 use native.Mathlib.Omega.{arith}
-use lib.ListN.{length, take, length-set}
+use lib.ListN.{length, length-set}
 use borrow.Author.Needs.{needs}
-use Rattle.placer.proofs.Seats.{seated-next, Onward, onward-start, onward-next, onward-end}
-use Rattle.placer.proofs.Walk.{placed-true}
-use Rattle.placer.specs.Seats.{SeatedBelow}
 use Rattle.chain.proofs.Decisions.{never}
+use Rattle.placer.proofs.Seats.{AtOnce, at-once-none, at-once-next, at-once-all}
 use Rattle.placer.proofs.place_at_once.Statement.{statement}
 use Rattle.placer.proofs.place_at_once.Tie as tie
 
 abbrev Inv-loop : tie.InvT-loop
-Inv-loop steps net ends terms count individuals table rows seats₀ k₀ seats k =
-    (k ≤ individuals) × (length seats ≡ length seats₀) × SeatedBelow seats k × Onward steps net ends rows table count individuals k seats
+Inv-loop logic net ends terms count individuals table rows seats₀ k₀ seats k =
+    (length seats ≡ length seats₀) × AtOnce logic net ends rows table count individuals k seats
 
 abbrev μ-loop : tie.MeasureT-loop
-μ-loop steps net ends terms count individuals table rows seats₀ k₀ seats k = individuals - k
+μ-loop logic net ends terms count individuals table rows seats₀ k₀ seats k = individuals - k
 
 loop-holds : tie.Need-loop-holds Inv-loop μ-loop
 loop-holds c =
-    let a = c .before .before .before .before .before .args in
-    (omega arith, refl, λ i l. absurd (omega arith), onward-start (a .steps) (a .net .now) (a .ends .now) (a .rows .now) (a .table .now) (a .count) (a .individuals) (a .seats .now))
+    let s = c .before .before .before .before .before in
+    let a = s .args in
+    (refl, at-once-none (a .logic) (a .net .now) (a .ends .now) (a .rows .now) (a .table .now) (a .count) (a .individuals) (a .seats .now) (s .pre .1))
 
 next-fit-requires : tie.Need-next-fit-requires Inv-loop μ-loop
 next-fit-requires c κs =
-    let s = c .before .before .before .before .before .before .before .before in
-    let a = s .args in
-    let l = c .before .before .loop in
-    (s .pre .0, (c .before .loop-test .taken, omega (arith, c .before .loop-test .taken, l .inv .1, s .pre .1), l .inv .2))
+    let h = c .before .loop-test .taken in
+    let o = c .before .before .loop .inv .1 in
+    (c .before .before .before .before .before .before .before .before .pre .0, (h, omega (arith, h, o .room), o .seated))
 
 same-length : tie.Need-same-length Inv-loop μ-loop
-same-length c = c .before .before .before .before .loop .inv .1
+same-length c = c .before .before .before .before .loop .inv .0
 
 returns : tie.Need-returns Inv-loop μ-loop
 returns c = λ e. never (sym e)
@@ -45,11 +42,7 @@ mul-seats : tie.Need-mul-seats Inv-loop μ-loop
 mul-seats c = search needs
 
 slice-write-seats : tie.Need-slice-write-seats Inv-loop μ-loop
-slice-write-seats c =
-    let s = c .before .before .before .before .before .before .before .before .before .before in
-    let a = s .args in
-    let l = c .before .before .before .before .loop in
-    omega (arith, c .before .before .before .loop-test .taken, l .inv .1, s .pre .1)
+slice-write-seats c = omega (arith, c .before .before .before .loop-test .taken, c .before .before .before .before .loop .inv .1 .room)
 
 add-k : tie.Need-add-k Inv-loop μ-loop
 add-k c = search needs
@@ -59,25 +52,18 @@ loop-less c = omega (arith, c .before .before .before .loop-test .taken)
 
 loop-again : tie.Need-loop-again Inv-loop μ-loop
 loop-again c =
-    let s = c .before .before .before .before .before .before .before .before .before .before in
-    let a = s .args in
     let l = c .before .before .before .before .loop in
-    let r = c .before .next-fit .result in (
-      omega (arith, c .before .before .before .loop-test .taken),
-      length-set (l .seats) (l .k) r ∙ l .inv .1,
-      seated-next (l .seats) (l .k) r (omega (arith, c .before .before .before .loop-test .taken, l .inv .1, s .pre .1)) (omega (arith, c .if1 .left, s .pre .0 .problem .candidates-few)) (l .inv .2),
-      onward-next (a .steps) (a .net .now) (a .ends .now) (a .rows .now) (a .table .now) (a .count) (a .individuals) (l .k) (l .seats) r (c .before .before .before .loop-test .taken) (omega (arith, c .before .before .before .loop-test .taken, l .inv .1, s .pre .1)) (omega (arith, c .if1 .left)) (c .before .next-fit .ensures) (l .inv .3),
+    let f = c .before .next-fit in (
+      length-set (l .seats) (l .k) (f .result) ∙ l .inv .0,
+      at-once-next (l .inv .1) (f .ensures) (c .before .before .before .loop-test .taken) (omega (arith, c .if1 .left))
+          (c .before .before .before .before .before .before .before .before .before .before .pre .0 .problem .candidates-few),
     )
 
 same-length-2 : tie.Need-same-length-2 Inv-loop μ-loop
-same-length-2 c = c .before .loop .inv .1
+same-length-2 c = c .before .loop .inv .0
 
 returns-2 : tie.Need-returns-2 Inv-loop μ-loop
-returns-2 c =
-    let s = c .before .before .before .before .before .before .before in
-    let a = s .args in
-    let l = c .before .loop in
-    λ e. placed-true true (take (a .individuals) (l .seats)) refl ∙ onward-end (a .steps) (a .net .now) (a .ends .now) (a .rows .now) (a .table .now) (a .count) (a .individuals) (l .k) (l .seats) (omega (arith, l .inv .0)) (l .inv .3)
+returns-2 c = λ _. at-once-all (c .before .loop .inv .1) (omega arith)
 
 pub place-at-once-spec : {M : Type 1} → statement M
 place-at-once-spec =

@@ -1,47 +1,66 @@
 -- `placer::place_in` meets its contract.
 -- Assumes nothing.
+use mathlib.Core.List.{List}
+use Prim.Native.Nat.{ℕ}
 use native.Mathlib.Omega.{arith}
 use borrow.Author.Needs.{needs}
-use Rattle.placer.proofs.Placing.{Prepared, individuals-at-most, filtered-graded, found-placement, vain-placed}
 use Rattle.sections.specs.Terms.{termCount}
+use Rattle.slots.proofs.Slots.{slot-role}
 use Rattle.domains.specs.Consistent.{Problem}
+use Rattle.placer.proofs.Rows.{Prepared, problem}
+use Rattle.placer.proofs.Placing.{filtered-graded, found-placement, vain-placed}
 use Rattle.placer.proofs.place_in.Statement.{statement}
 use Rattle.placer.proofs.place_in.Tie as tie
 
+-- once the network is made and the rows are filled
+module _ (c : tie.After-fill-rows) where
+  abbrev connected : tie.After-connect
+  connected = c .before .before .before .before .before .before
+
+  abbrev start : tie.Start
+  start = connected .before .before .before .before .before .before .before .before .before .before .before .before .before
+
+  abbrev net : List ℕ
+  net = connected .connect .last .1 .1 .0
+
+  abbrev ends : List ℕ
+  ends = connected .connect .last .1 .1 .1 .0
+
+  abbrev rows : List ℕ
+  rows = c .fill-rows .last .1 .1 .1 .1 .0
+
+  prepared : let a = start .args in
+      Prepared (a .logic) (a .terms .now) (a .slots .now) (a .memberships .now) (a .links .now) (a .marks .now) (a .count) (a .individuals) net ends rows
+  prepared = record { task = start .pre .0; network = connected .connect .ensures; rowed = c .fill-rows .ensures }
+
+  solvable : let a = start .args in Problem (a .logic) (termCount (a .terms .now)) net ends (a .count) (a .individuals) rows
+  solvable =
+      let y = start .pre .1 .1 in
+      problem prepared (omega (arith, connected .connect .kept .1 .1 .1 .0, y .1)) (omega (arith, c .fill-rows .kept .1 .1 .1 .1 .0, y .3))
+
 connect-requires : tie.Need-connect-requires
-connect-requires c κs = search needs
+connect-requires c κs =
+    let s = c .before .before .before .before .before .before .before .before .before .before .before .before in
+    let t = s .pre .0 in
+    let y = s .pre .1 .1 in (
+      (t .few-slots, slot-role (s .args .terms .now) (t .terms-right) (s .args .slots .now) (t .slots-are)),
+      (λ i l. let h = t .links-right i l in (h .0, h .1 .0, h .1 .1 .0), y .0, y .1, y .2),
+    )
 
 fill-rows-requires : tie.Need-fill-rows-requires
 fill-rows-requires c κs = search needs
 
 fill-table-requires : tie.Need-fill-table-requires
 fill-table-requires c κs =
-    let s = c .before .before .before .before .before .before .before .before .before .before .before .before .before .before .before .before .before .before .before .before .before .before .before .before in
-    let a = s .args in
-    let z = s .pre .1 .1 .1 .1 .0 in
-    let y = s .pre .1 .1 .1 .1 .1 in
-    let k = c .before .before .before .before .before .before .before .before .before .before .before .before .connect in
-    let r = c .before .before .before .before .before .before .fill-rows in
-    let net = k .last .1 .1 .1 .0 in
-    let ends = k .last .1 .1 .1 .1 .0 in
-    let rows = r .last .1 .1 .1 .1 .0 in
-    let problem : Problem (a .steps) (termCount (a .terms .now)) net ends (a .count) (a .individuals) rows = record {
-      wired = record { laid = k .ensures .laid; long = omega (arith, k .kept .1 .1 .1 .1 .0, y .1); right = k .ensures .right; few = s .pre .1 .1 .1 .0 };
-      candidates-few = z .0;
-      individuals-few = omega (arith, z .2, individuals-at-most (a .steps) (a .terms .now) (a .memberships .now) (a .links .now) (s .pre .1 .0) (s .pre .1 .1 .0));
-      rows-long = omega (arith, r .kept .1 .1 .1 .1 .0, y .3);
-    } in
-    (s .pre .1 .0, (problem, (z .1, y .4, y .5)))
+    let e = c .before .before .before .before .before .before in
+    let y = start e .pre .1 .1 in
+    (start e .pre .0 .memberships-right, (solvable e, (start e .pre .0 .marks-long, y .4, y .5)))
 
 in-vain-requires : tie.Need-in-vain-requires
 in-vain-requires c κs =
-    let s = c .before .before .before .before .before .before .before .before .before .before .before .before .before .before .before .before .before .before .before .before .before .before .before .before .before .before .before .before in
-    let a = s .args in
-    let z = s .pre .1 .1 .1 .1 .0 in (
-      z .0,
-      omega (arith, z .2, individuals-at-most (a .steps) (a .terms .now) (a .memberships .now) (a .links .now) (s .pre .1 .0) (s .pre .1 .1 .0)),
-      omega (arith, c .before .before .before .fill-table .kept .1 .1 .1 .1 .1 .1 .1 .1 .1 .0, s .pre .1 .1 .1 .1 .1 .4),
-    )
+    let e = c .before .before .before .before .before .before .before .before .before .before in
+    let f = c .before .before .before .fill-table in
+    (start e .pre .0 .few, solvable e .individuals-few, omega (arith, f .kept .1 .1 .1 .1 .1 .1 .1 .1 .1 .0, start e .pre .1 .1 .4))
 
 same-length : tie.Need-same-length
 same-length c = search needs
@@ -57,57 +76,21 @@ same-length-4 c = search needs
 
 returns : tie.Need-returns
 returns c =
-    let s = c .before .before .before .before .before .before .before .before .before .before .before .before .before .before .before .before .before .before .before .before .before .before .before .before .before .before .before .before .before .before in
-    let a = s .args in
-    let z = s .pre .1 .1 .1 .1 .0 in
-    let y = s .pre .1 .1 .1 .1 .1 in
-    let k = c .before .before .before .before .before .before .before .before .before .before .before .before .before .before .before .before .before .before .connect in
-    let r = c .before .before .before .before .before .before .before .before .before .before .before .before .fill-rows in
-    let net = k .last .1 .1 .1 .0 in
-    let ends = k .last .1 .1 .1 .1 .0 in
-    let rows = r .last .1 .1 .1 .1 .0 in
-    let prepared : Prepared (a .steps) (a .terms .now) (a .memberships .now) (a .links .now) (a .marks .now) (a .individuals) (a .count) net ends rows = record {
-      terms-right = s .pre .0;
-      memberships-right = s .pre .1 .0;
-      links-right = s .pre .1 .1 .0;
-      candidates-few = z .0;
-      individuals-are = z .2;
-      network = k .ensures;
-      rowed = r .ensures;
-    } in
+    let w = prepared (c .before .before .before .before .before .before .before .before .before .before .before .before) in
     let f = c .before .before .before .before .before .fill-table in
-    let table = f .last .1 .1 .1 .1 .1 .1 .1 .1 .1 .0 in
-    vain-placed (a .steps) (a .terms .now) (a .memberships .now) (a .links .now) (a .marks .now) (a .individuals) (a .count) net ends rows prepared table (f .ensures) _ (c .before .in-vain .ensures .0 (c .if1 .taken))
+    vain-placed w (f .last .1 .1 .1 .1 .1 .1 .1 .1 .1 .0) (f .ensures) _ (c .before .in-vain .ensures .0 (c .if1 .taken))
 
 place-thinned-requires : tie.Need-place-thinned-requires
 place-thinned-requires c κs =
-    let s = c .before .before .before .before .before .before .before .before .before .before .before .before .before .before .before .before .before .before .before .before .before .before .before .before .before .before .before .before .before .before .before .before .before .before .before in
-    let a = s .args in
-    let z = s .pre .1 .1 .1 .1 .0 in
-    let y = s .pre .1 .1 .1 .1 .1 in
-    let k = c .before .before .before .before .before .before .before .before .before .before .before .before .before .before .before .before .before .before .before .before .before .before .before .connect in
-    let r = c .before .before .before .before .before .before .before .before .before .before .before .before .before .before .before .before .before .fill-rows in
-    let net = k .last .1 .1 .1 .0 in
-    let ends = k .last .1 .1 .1 .1 .0 in
-    let rows = r .last .1 .1 .1 .1 .0 in
-    let problem : Problem (a .steps) (termCount (a .terms .now)) net ends (a .count) (a .individuals) rows = record {
-      wired = record { laid = k .ensures .laid; long = omega (arith, k .kept .1 .1 .1 .1 .0, y .1); right = k .ensures .right; few = s .pre .1 .1 .1 .0 };
-      candidates-few = z .0;
-      individuals-few = omega (arith, z .2, individuals-at-most (a .steps) (a .terms .now) (a .memberships .now) (a .links .now) (s .pre .1 .0) (s .pre .1 .1 .0));
-      rows-long = omega (arith, r .kept .1 .1 .1 .1 .0, y .3);
-    } in
-    let prepared : Prepared (a .steps) (a .terms .now) (a .memberships .now) (a .links .now) (a .marks .now) (a .individuals) (a .count) net ends rows = record {
-      terms-right = s .pre .0;
-      memberships-right = s .pre .1 .0;
-      links-right = s .pre .1 .1 .0;
-      candidates-few = z .0;
-      individuals-are = z .2;
-      network = k .ensures;
-      rowed = r .ensures;
-    } in
-    let f = c .before .before .before .before .before .before .before .before .before .before .fill-table in
-    let table = f .last .1 .1 .1 .1 .1 .1 .1 .1 .1 .0 in
-    (problem, (omega (arith, f .kept .1 .1 .1 .1 .1 .1 .1 .1 .1 .0, y .4), z .3, filtered-graded (a .steps) (a .terms .now) (a .memberships .now) (a .links .now) (a .marks .now) (a .individuals) (a .count) net ends rows prepared table (f .ensures)))
+    let e = c .before .before .before .before .before .before .before .before .before .before .before .before .before .before .before .before .before in
+    let f = c .before .before .before .before .before .before .before .before .before .before .fill-table in (
+      solvable e,
+      (
+        omega (arith, f .kept .1 .1 .1 .1 .1 .1 .1 .1 .1 .0, start e .pre .1 .1 .4),
+        start e .pre .1 .0,
+        filtered-graded (prepared e) (f .last .1 .1 .1 .1 .1 .1 .1 .1 .1 .0) (f .ensures),
+      ),
+    )
 
 same-length-5 : tie.Need-same-length-5
 same-length-5 c = search needs
@@ -126,27 +109,10 @@ same-length-9 c = search needs
 
 returns-2 : tie.Need-returns-2
 returns-2 c =
-    let s = c .before .before .before .before .before .before .before .before .before .before .before .before .before .before .before .before .before .before .before .before .before .before .before .before .before .before .before .before .before .before .before .before .before .before .before .before .before .before .before .before in
-    let a = s .args in
-    let z = s .pre .1 .1 .1 .1 .0 in
-    let y = s .pre .1 .1 .1 .1 .1 in
-    let k = c .before .before .before .before .before .before .before .before .before .before .before .before .before .before .before .before .before .before .before .before .before .before .before .before .before .before .before .before .connect in
-    let r = c .before .before .before .before .before .before .before .before .before .before .before .before .before .before .before .before .before .before .before .before .before .before .fill-rows in
-    let net = k .last .1 .1 .1 .0 in
-    let ends = k .last .1 .1 .1 .1 .0 in
-    let rows = r .last .1 .1 .1 .1 .0 in
-    let prepared : Prepared (a .steps) (a .terms .now) (a .memberships .now) (a .links .now) (a .marks .now) (a .individuals) (a .count) net ends rows = record {
-      terms-right = s .pre .0;
-      memberships-right = s .pre .1 .0;
-      links-right = s .pre .1 .1 .0;
-      candidates-few = z .0;
-      individuals-are = z .2;
-      network = k .ensures;
-      rowed = r .ensures;
-    } in
+    let w = prepared (c .before .before .before .before .before .before .before .before .before .before .before .before .before .before .before .before .before .before .before .before .before .before) in
     let f = c .before .before .before .before .before .before .before .before .before .before .before .before .before .before .before .fill-table in
-    let table = f .last .1 .1 .1 .1 .1 .1 .1 .1 .1 .0 in
-    found-placement (a .steps) (a .terms .now) (a .memberships .now) (a .links .now) (a .marks .now) (a .individuals) (a .count) net ends rows prepared table (f .ensures) (c .before .before .before .before .place-thinned .result) _ (c .before .before .before .before .place-thinned .ensures)
+    let p = c .before .before .before .before .place-thinned in
+    found-placement w (f .last .1 .1 .1 .1 .1 .1 .1 .1 .1 .0) (f .ensures) (p .result) _ (p .ensures)
 
 pub place-in-spec : {M : Type 1} → statement M
 place-in-spec =

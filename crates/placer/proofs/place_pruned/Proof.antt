@@ -1,11 +1,10 @@
 -- `placer::place_pruned` meets its contract.
 -- Assumes nothing.
-use mathlib.Core.Bool.{false}
-use mathlib.Core.Path.{refl, _∙_}
+use mathlib.Core.Path.{_∙_}
+use native.Mathlib.Nat.{sub-zero}
 use native.Mathlib.Omega.{arith}
 use borrow.Author.Needs.{needs}
-use Rattle.placer.proofs.Pruning.{vain-walk, pruned-walk, walk-first}
-use Rattle.placer.proofs.Walk.{placed-false}
+use Rattle.placer.proofs.Pruning.{vain-finds, pruned-walk}
 use Rattle.placer.proofs.place_pruned.Statement.{statement}
 use Rattle.placer.proofs.place_pruned.Tie as tie
 
@@ -20,17 +19,18 @@ same-length c = search needs
 
 returns : tie.Need-returns
 returns c =
-    let s = c .before .before .before .before .before .before .before .before .before .before .before .before in
-    let a = s .args in
+    let a = c .before .before .before .before .before .before .before .before .before .before .before .before .args in
     let p = c .before .before .before .before .before .prune in
-    let new = p .last .1 .1 .1 .1 .1 .1 .1 .0 in
-    placed-false false _ refl ∙ vain-walk (a .steps) (a .net .now) (a .ends .now) (a .rows .now) (a .count) (a .individuals) new (c .before .in-vain .ensures .0 (c .if1 .taken)) ∙ pruned-walk (a .steps) (a .net .now) (a .ends .now) (a .rows .now) (a .count) (a .individuals) (a .table .now) new (p .ensures .0)
+    vain-finds (a .logic) (a .net .now) (a .ends .now) (a .rows .now) (a .count) (a .individuals) (p .last .1 .1 .1 .1 .1 .1 .1 .0) (a .seats .now)
+    (c .before .in-vain .ensures .0 (c .if1 .taken)) ∙ pruned-walk (p .ensures .0)
 
 place-from-requires : tie.Need-place-from-requires
 place-from-requires c κs =
     let s = c .before .before .before .before .before .before .before .before .before .before .before .before .before .before in
-    let p = c .before .before .before .before .before .before .before .prune in
-    (record { problem = s .pre .0 .problem; table-long = omega (arith, p .kept .1 .1 .1 .1 .1 .1 .1 .0, s .pre .0 .table-long); gaps = p .ensures .1 .1 }, (omega arith, s .pre .1 .0, λ i l. absurd (omega arith)))
+    let p = c .before .before .before .before .before .before .before .prune in (
+      record { problem = s .pre .0 .problem; table-long = omega (arith, p .kept .1 .1 .1 .1 .1 .1 .1 .0, s .pre .0 .table-long); gaps = p .ensures .1 .1 },
+      (omega arith, s .pre .1 .0, λ i l. absurd (omega arith)),
+    )
 
 same-length-2 : tie.Need-same-length-2
 same-length-2 c = search needs
@@ -40,11 +40,8 @@ same-length-3 c = search needs
 
 returns-2 : tie.Need-returns-2
 returns-2 c =
-    let s = c .before .before .before .before .before .before .before .before .before .before .before .before .before .before .before .before .before in
-    let a = s .args in
-    let p = c .before .before .before .before .before .before .before .before .before .before .prune in
-    let new = p .last .1 .1 .1 .1 .1 .1 .1 .0 in
-    walk-first (a .steps) (a .net .now) (a .ends .now) (a .rows .now) (a .count) (a .individuals) new (c .before .before .place-from .result) (a .seats .now) (c .before .before .place-from .last .1 .1 .1 .1 .1 .1 .1 .1 .0) (c .before .before .place-from .ensures .1) ∙ pruned-walk (a .steps) (a .net .now) (a .ends .now) (a .rows .now) (a .count) (a .individuals) (a .table .now) new (p .ensures .0)
+    rw (sub-zero) at (c .before .before .place-from .ensures .1)
+    ∙ pruned-walk (c .before .before .before .before .before .before .before .before .before .before .prune .ensures .0)
 
 pub place-pruned-spec : {M : Type 1} → statement M
 place-pruned-spec =

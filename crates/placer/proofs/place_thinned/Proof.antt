@@ -1,11 +1,9 @@
 -- `placer::place_thinned` meets its contract.
 -- Assumes nothing.
-use mathlib.Core.Bool.{true}
-use mathlib.Core.Path.{refl, sym, _∙_}
+use mathlib.Core.Path.{_∙_}
 use native.Mathlib.Omega.{arith}
 use borrow.Author.Needs.{needs}
-use Rattle.placer.proofs.Pruning.{same-walk, thinned-walk}
-use Rattle.placer.proofs.Walk.{placed-true}
+use Rattle.placer.proofs.Pruning.{thinned-walk}
 use Rattle.placer.proofs.place_thinned.Statement.{statement}
 use Rattle.placer.proofs.place_thinned.Tie as tie
 
@@ -30,12 +28,9 @@ same-length-2 c = search needs
 
 returns : tie.Need-returns
 returns c =
-    let s = c .before .before .before .before .before .before .before .before .before .before .before .before .before .before .before .before .before .before .before in
-    let a = s .args in
     let t = c .before .before .before .before .before .before .before .before .before .before .before .before .thin in
     let g = c .before .before .before .before .before .before .before .before .note-all-gaps in
-    let p = c .before .before .before .place-at-once in
-    placed-true true _ refl ∙ sym (placed-true (p .result) _ (c .if1 .taken)) ∙ p .ensures (c .if1 .taken) ∙ same-walk (a .steps) (a .net .now) (a .ends .now) (a .rows .now) (a .count) (a .individuals) (t .last .1 .1 .1 .1 .1 .1 .1 .0) (g .last .0) (g .ensures .0) ∙ thinned-walk (a .steps) (a .net .now) (a .ends .now) (a .rows .now) (a .count) (a .individuals) (a .table .now) (t .last .1 .1 .1 .1 .1 .1 .1 .0) (t .ensures)
+    c .before .before .before .place-at-once .ensures (c .if1 .taken) ∙ thinned-walk (t .ensures) (g .last .0) (g .ensures .0)
 
 place-pruned-requires : tie.Need-place-pruned-requires
 place-pruned-requires c κs =
@@ -43,7 +38,10 @@ place-pruned-requires c κs =
     let t = c .before .before .before .before .before .before .before .before .before .before .before .before .before .before .thin in
     let g = c .before .before .before .before .before .before .before .before .before .before .note-all-gaps in (
       record { problem = s .pre .0; table-long = omega (arith, g .kept .0, t .kept .1 .1 .1 .1 .1 .1 .1 .0, s .pre .1 .0); gaps = g .ensures .1 },
-      (omega (arith, c .before .before .before .before .before .place-at-once .kept .1 .1 .1 .1 .1 .1 .1 .1 .0, s .pre .1 .1), λ j c h l e. s .pre .1 .2 j c h l (t .ensures .fewer _ (g .ensures .0 _ .0 e))),
+      (
+        omega (arith, c .before .before .before .before .before .place-at-once .kept .1 .1 .1 .1 .1 .1 .1 .1 .0, s .pre .1 .1),
+        λ j c h l e. s .pre .1 .2 j c h l (t .ensures .fewer _ (g .ensures .0 _ .0 e)),
+      ),
     )
 
 same-length-3 : tie.Need-same-length-3
@@ -54,11 +52,9 @@ same-length-4 c = search needs
 
 returns-2 : tie.Need-returns-2
 returns-2 c =
-    let s = c .before .before .before .before .before .before .before .before .before .before .before .before .before .before .before .before .before .before .before .before .before .before .before .before .before .before in
-    let a = s .args in
     let t = c .before .before .before .before .before .before .before .before .before .before .before .before .before .before .before .before .before .before .before .thin in
     let g = c .before .before .before .before .before .before .before .before .before .before .before .before .before .before .before .note-all-gaps in
-    c .before .before .before .before .place-pruned .ensures ∙ same-walk (a .steps) (a .net .now) (a .ends .now) (a .rows .now) (a .count) (a .individuals) (t .last .1 .1 .1 .1 .1 .1 .1 .0) (g .last .0) (g .ensures .0) ∙ thinned-walk (a .steps) (a .net .now) (a .ends .now) (a .rows .now) (a .count) (a .individuals) (a .table .now) (t .last .1 .1 .1 .1 .1 .1 .1 .0) (t .ensures)
+    c .before .before .before .before .place-pruned .ensures ∙ thinned-walk (t .ensures) (g .last .0) (g .ensures .0)
 
 pub place-thinned-spec : {M : Type 1} → statement M
 place-thinned-spec =

@@ -26,8 +26,8 @@ put-type-requires : tie.Need-put-type-requires
 put-type-requires c κs =
     let s = c .before .before .before .before .before .before .before in
     let terms = s .args .terms .now in
-    rw (row-front (s .args .steps) terms (s .args .c) _ _ (c .before .before .before .fill-row .ensures))
-    ((row-digits (s .args .steps) terms (s .args .c) (s .pre .0) (omega arith), omega (arith, row-length (s .args .steps) terms (s .args .c))), omega arith)
+    rw (row-front (s .args .logic) terms (s .args .c) _ _ (c .before .before .before .fill-row .ensures))
+    ((row-digits (s .args .logic) terms (s .args .c) (s .pre .0) (omega arith), omega (arith, row-length (s .args .logic) terms (s .args .c))), omega arith)
 
 same-length : tie.Need-same-length
 same-length c = search needs
@@ -35,7 +35,7 @@ same-length c = search needs
 returns : tie.Need-returns
 returns c =
     let s = c .before .before .before .before .before .before .before .before .before .before in
-    let front = row-front (s .args .steps) (s .args .terms .now) (s .args .c) _ _ (c .before .before .before .before .before .before .fill-row .ensures) in
+    let front = row-front (s .args .logic) (s .args .terms .now) (s .args .c) _ _ (c .before .before .before .before .before .before .fill-row .ensures) in
     (added-same (ap (typeLine (s .args .c)) front) (c .before .before .put-type .ensures .0), c .before .before .put-type .ensures .1)
 
 pub type-line-spec : {M : Type 1} → statement M

@@ -7,7 +7,8 @@ use mathlib.Core.List.{List, flatMap}
 use lib.ListN.{length}
 use borrow.Author.Needs.{needs}
 use Rattle.chain.specs.Lists.{from}
-use Rattle.semantics.specs.Interpretations.{graded}
+use Rattle.gradings.specs.Gradings.{grading}
+use Rattle.gradings.specs.declared.Logic.{Logic}
 use Rattle.sections.specs.Terms.{termsOf}
 use Rattle.grades.specs.Rows.{rowOf}
 use Rattle.elimination.specs.Marks.{marked?}
@@ -18,19 +19,21 @@ use Rattle.printout.proofs.type_lines.Statement.{statement}
 use Rattle.printout.proofs.type_lines.Tie as tie
 
 -- the candidates' types
-abbrev rows : (terms : List ℕ) (steps : ℕ) → ℕ → List ℕ
-rows terms steps = rowOf (graded steps (termsOf terms))
+abbrev rows : (terms : List ℕ) (logic : Logic) → ℕ → List ℕ
+rows terms logic = rowOf (grading logic (termsOf terms))
 
 abbrev Inv-loop : tie.InvT-loop
-Inv-loop out₀ terms steps marks first count end₀ i₀ out end i =
+Inv-loop out₀ terms logic marks first count end₀ i₀ out end i =
     (i ≤ count) × (length out ≡ length out₀) × (end ≤ 192 * i)
-    × Added out₀ 0 (flatMap (lineIf (rows terms steps) (marked? marks)) (from first i)) out end
+    × Added out₀ 0 (flatMap (lineIf (rows terms logic) (marked? marks)) (from first i)) out end
 
 abbrev μ-loop : tie.MeasureT-loop
 μ-loop out₀ terms steps marks first count end₀ i₀ out end i = count - i
 
 loop-holds : tie.Need-loop-holds Inv-loop μ-loop
-loop-holds c = (omega arith, refl, omega arith, added-same (types-none (rows (c .before .before .before .args .terms .now) (c .before .before .before .args .steps)) (marked? (c .before .before .before .args .marks .now)) (c .before .before .before .args .first)) (added-none _ _))
+loop-holds c =
+    let s = c .before .before .before in
+    (omega arith, refl, omega arith, added-same (types-none (rows (s .args .terms .now) (s .args .logic)) (marked? (s .args .marks .now)) (s .args .first)) (added-none _ _))
 
 add-put-marked : tie.Need-add-put-marked Inv-loop μ-loop
 add-put-marked c = search needs
@@ -45,20 +48,25 @@ loop-less : tie.Need-loop-less Inv-loop μ-loop
 loop-less c = search needs
 
 loop-again : tie.Need-loop-again Inv-loop μ-loop
-loop-again c = (
-  omega arith,
-  c .before .before .put-marked .kept .0 ∙ c .before .before .before .before .before .loop .inv .1,
-  omega (arith, c .before .before .put-marked .ensures .1),
-  added-same (types-more (rows (c .before .before .before .before .before .before .before .before .before .args .terms .now) (c .before .before .before .before .before .before .before .before .before .args .steps)) (marked? (c .before .before .before .before .before .before .before .before .before .args .marks .now)) (c .before .before .before .before .before .before .before .before .before .args .first) (c .before .before .before .before .before .loop .i)) (added-then (c .before .before .before .before .before .loop .inv .3) (c .before .before .put-marked .ensures .0)),
-)
+loop-again c =
+    let s = c .before .before .before .before .before .before .before .before .before in
+    let loop = c .before .before .before .before .before .loop in
+    let put-marked = c .before .before .put-marked in (
+      omega arith,
+      put-marked .kept .0 ∙ loop .inv .1,
+      omega (arith, put-marked .ensures .1),
+      added-same (types-more (rows (s .args .terms .now) (s .args .logic)) (marked? (s .args .marks .now)) (s .args .first) (loop .i)) (added-then (loop .inv .3) (put-marked .ensures .0)),
+    )
 
 same-length : tie.Need-same-length Inv-loop μ-loop
 same-length c = search needs
 
 returns : tie.Need-returns Inv-loop μ-loop
 returns c =
-    let e : c .before .loop .i ≡ c .before .before .before .before .before .args .count = omega arith in
-    (added-same (rw e (types-all (rows (c .before .before .before .before .before .args .terms .now) (c .before .before .before .before .before .args .steps)) (marked? (c .before .before .before .before .before .args .marks .now)) (c .before .before .before .before .before .args .first) (c .before .before .before .before .before .args .count))) (c .before .loop .inv .3), omega arith)
+    let s = c .before .before .before .before .before in
+    let loop = c .before .loop in
+    let e : loop .i ≡ s .args .count = omega arith in
+    (added-same (rw e (types-all (rows (s .args .terms .now) (s .args .logic)) (marked? (s .args .marks .now)) (s .args .first) (s .args .count))) (loop .inv .3), omega arith)
 
 pub type-lines-spec : {M : Type 1} → statement M
 type-lines-spec =

@@ -31,22 +31,32 @@ cast-known c =
 still-marked-requires : tie.Need-still-marked-requires
 still-marked-requires c κs =
     let s = c .before .before .before .before .before .before in
-    remembered-le (tables (s .args .steps) (length (s .args .marks .now)) (s .args .slots .now) (s .args .own .now) (s .args .child .now)) (s .args .marks .now) (s .args .memory .now) (s .pre .1 .1) (s .args .c) (s .args .q) (s .pre .1 .0 .1) (s .pre .1 .0 .2)
+    let a = s .args in
+    let p = s .pre .1 .0 in
+    remembered-le (tables (a .logic) (length (a .marks .now)) (a .slots .now) (a .own .now) (a .child .now))
+    (a .marks .now) (a .memory .now) (s .pre .1 .1) (a .c) (a .q) (p .1) (p .2)
 
 returns : tie.Need-returns
 returns c =
     let s = c .before .before .before .before .before .before .before .before in
-    (tells-yes (still-backed (tables (s .args .steps) (length (s .args .marks .now)) (s .args .slots .now) (s .args .own .now) (s .args .child .now)) (s .args .marks .now) (s .args .memory .now) (s .pre .1 .1) (s .args .c) (s .args .q) (s .pre .1 .0 .1) (s .pre .1 .0 .2) (c .before .still-marked .ensures .0 (c .if1 .taken))), s .pre .1 .1)
+    let a = s .args in
+    let p = s .pre .1 .0 in
+    let b = still-backed (tables (a .logic) (length (a .marks .now)) (a .slots .now) (a .own .now) (a .child .now))
+    (a .marks .now) (a .memory .now) (s .pre .1 .1) (a .c) (a .q) (p .1) (p .2) (c .before .still-marked .ensures .0 (c .if1 .taken)) in
+    (tells-yes b, s .pre .1 .1)
 
 next-witness-requires : tie.Need-next-witness-requires
-next-witness-requires c κs =
-    let s = c .before .before .before .before .before .before .before .before in
-    (s .pre .0, (s .pre .1 .0 .0, s .pre .1 .0 .1, s .pre .1 .0 .2))
+next-witness-requires c κs = search needs
 
 returns-2 : tie.Need-returns-2
 returns-2 c =
     let s = c .before .before .before .before .before .before .before .before .before .before in
-    (tells-no (none-backed (tables (s .args .steps) (length (s .args .marks .now)) (s .args .slots .now) (s .args .own .now) (s .args .child .now)) (s .args .marks .now) (s .args .memory .now) (s .pre .1 .1) (s .args .c) (s .args .q) (s .pre .1 .0 .1) (s .pre .1 .0 .2) (c .before .before .before .still-marked .ensures .1 (c .before .before .if1 .left)) _ (c .before .next-witness .ensures) refl (omega arith)), s .pre .1 .1)
+    let a = s .args in
+    let p = s .pre .1 .0 in
+    let n = none-backed (tables (a .logic) (length (a .marks .now)) (a .slots .now) (a .own .now) (a .child .now))
+    (a .marks .now) (a .memory .now) (s .pre .1 .1) (a .c) (a .q) (p .1) (p .2)
+    (c .before .before .before .still-marked .ensures .1 (c .before .before .if1 .left)) _ (c .before .next-witness .ensures) refl (omega arith) in
+    (tells-no n, s .pre .1 .1)
 
 add-memory : tie.Need-add-memory
 add-memory c = search needs
@@ -66,10 +76,13 @@ same-length c = search needs
 returns-3 : tie.Need-returns-3
 returns-3 c =
     let s = c .before .before .before .before .before .before .before .before .before .before in
-    let T = tables (s .args .steps) (length (s .args .marks .now)) (s .args .slots .now) (s .args .own .now) (s .args .child .now) in
-    let p = s .pre .1 .0 in (
-      tells-yes (found-backed T (s .args .marks .now) (s .args .memory .now) (s .pre .1 .1) (s .args .c) (s .args .q) (s .pre .1 .0 .1) (s .pre .1 .0 .2) (c .before .before .before .still-marked .ensures .1 (c .before .before .if1 .left)) _ (c .before .next-witness .ensures) (omega arith)),
-      found-remembers T (s .args .marks .now) (s .args .memory .now) (s .pre .1 .1) (s .args .c) (s .args .q) (s .pre .1 .0 .1) (s .pre .1 .0 .2) (c .before .before .before .still-marked .ensures .1 (c .before .before .if1 .left)) _ (c .before .next-witness .ensures) (omega arith) (s .pre .0 .few) (p .3),
+    let a = s .args in
+    let p = s .pre .1 .0 in
+    let T = tables (a .logic) (length (a .marks .now)) (a .slots .now) (a .own .now) (a .child .now) in
+    let g = c .before .before .before .still-marked .ensures .1 (c .before .before .if1 .left) in
+    let f = c .before .next-witness .ensures in (
+      tells-yes (found-backed T (a .marks .now) (a .memory .now) (s .pre .1 .1) (a .c) (a .q) (p .1) (p .2) g _ f (omega arith)),
+      found-remembers T (a .marks .now) (a .memory .now) (s .pre .1 .1) (a .c) (a .q) (p .1) (p .2) g _ f (omega arith) (s .pre .0 .few) (p .3),
     )
 
 pub backed-spec : {M : Type 1} → statement M

@@ -1,78 +1,53 @@
 -- `witnesses::make_box` meets its contract. The bounds of the slots below `j` are made.
 -- Assumes nothing.
-use mathlib.Core.Path.{_≡_}
-use Prim.Native.Nat.{ℕ, _-_, _≤_, _<_}
+use mathlib.Core.Path.{_≡_, refl}
+use Prim.Native.Nat.{_*_, _-_, _≤_}
 use native.Mathlib.Omega.{arith}
 use lib.ListN.{length, length-set}
 use borrow.Author.Count.{below-none}
 use borrow.Author.Needs.{needs}
-use Rattle.witnesses.specs.Tables.{slotCount}
-use Rattle.witnesses.specs.Search.{BoundsAt}
-use Rattle.witnesses.proofs.Search.{box-more}
+use Rattle.slots.specs.Slots.{slotCount}
+use Rattle.witnesses.specs.Search.{BoxTo, OthersKept}
+use Rattle.witnesses.proofs.Search.{box-more, others-set}
 use Rattle.witnesses.proofs.make_box.Statement.{statement}
 use Rattle.witnesses.proofs.make_box.Tie as tie
 
 abbrev Inv-loop : tie.InvT-loop
-Inv-loop steps slots own c q low₀ high₀ count level j₀ low high j =
-    (j ≤ slotCount slots) × (length low ≡ 16) × (length high ≡ 16) × ((i : ℕ) → i < j → BoundsAt steps slots own c q low high i)
+Inv-loop logic slots own c q level low₀ high₀ count row j₀ low high j =
+    (j ≤ slotCount slots) × (row ≡ 16 * level) × (length low ≡ length low₀) × (length high ≡ length high₀)
+    × BoxTo logic slots own c q low high level j × OthersKept level low₀ low × OthersKept level high₀ high
 
 abbrev μ-loop : tie.MeasureT-loop
-μ-loop steps slots own c q low₀ high₀ count level j₀ low high j =
-    slotCount slots - j
+μ-loop logic slots own c q level low₀ high₀ count row j₀ low high j = slotCount slots - j
 
-mul-level-of : tie.Need-mul-level-of Inv-loop μ-loop
-mul-level-of c = search needs
+wide-requires : tie.Need-wide-requires Inv-loop μ-loop
+wide-requires c κs = search needs
 
-shared-slice-read-level-of : tie.Need-shared-slice-read-level-of Inv-loop μ-loop
-shared-slice-read-level-of c = search needs
-
-mul-level-of-2 : tie.Need-mul-level-of-2 Inv-loop μ-loop
-mul-level-of-2 c = search needs
-
-add-level-of : tie.Need-add-level-of Inv-loop μ-loop
-add-level-of c = search needs
-
-shared-slice-read-level-of-2 : tie.Need-shared-slice-read-level-of-2 Inv-loop μ-loop
-shared-slice-read-level-of-2 c = search needs
-
-level-of-requires : tie.Need-level-of-requires Inv-loop μ-loop
-level-of-requires c κs =
-    let s = c .before .before .before .before in
-    s .pre .1 .1 (s .args .q) (omega arith)
+mul-row : tie.Need-mul-row Inv-loop μ-loop
+mul-row c = search needs
 
 loop-holds : tie.Need-loop-holds Inv-loop μ-loop
-loop-holds c =
-    let s = c .before .before .before .before .before in
-    (omega arith, s .pre .1 .0 .0, s .pre .1 .0 .1, below-none _)
+loop-holds c = (omega arith, omega (arith, c .wide .ensures), refl, refl, below-none _, λ u i n h. refl, λ u i n h. refl)
 
-mul-grade : tie.Need-mul-grade Inv-loop μ-loop
-mul-grade c = search needs
-
-add-grade : tie.Need-add-grade Inv-loop μ-loop
-add-grade c = search needs
-
-shared-slice-read-grade : tie.Need-shared-slice-read-grade Inv-loop μ-loop
-shared-slice-read-grade c = search needs
-
-low-of-requires : tie.Need-low-of-requires Inv-loop μ-loop
-low-of-requires c κs =
-    let s = c .before .before .before .before .before .before .before .before in
-    let k = s .pre .1 .1 (c .before .before .loop .j) (omega arith) in
+bounds-of-requires : tie.Need-bounds-of-requires Inv-loop μ-loop
+bounds-of-requires c κs =
+    let s = c .before .before .before .before .before .before .before in
+    let l = c .before .loop in
     let p = s .pre .0 in
-    ((p .0, omega arith, c .before .before .before .level-of .ensures .1), (k .0, k .1))
+    let k = s .pre .1 .1 (l .j) (omega arith) in
+    ((p .0, omega arith, p .1, p .2, p .3), (s .pre .1 .0 .1, k .0, k .1, k .2))
 
-element-write-low : tie.Need-element-write-low Inv-loop μ-loop
-element-write-low c = search needs
+add-low : tie.Need-add-low Inv-loop μ-loop
+add-low c = search needs
 
-high-of-requires : tie.Need-high-of-requires Inv-loop μ-loop
-high-of-requires c κs =
-    let s = c .before .before .before .before .before .before .before .before .before in
-    let k = s .pre .1 .1 (c .before .before .before .loop .j) (omega arith) in
-    let p = s .pre .0 in
-    ((p .0, omega arith, c .before .before .before .before .level-of .ensures .1), (k .0, k .1))
+slice-write-low : tie.Need-slice-write-low Inv-loop μ-loop
+slice-write-low c = search needs
 
-element-write-high : tie.Need-element-write-high Inv-loop μ-loop
-element-write-high c = search needs
+add-high : tie.Need-add-high Inv-loop μ-loop
+add-high c = search needs
+
+slice-write-high : tie.Need-slice-write-high Inv-loop μ-loop
+slice-write-high c = search needs
 
 add-j : tie.Need-add-j Inv-loop μ-loop
 add-j c = search needs
@@ -82,17 +57,29 @@ loop-less c = search needs
 
 loop-again : tie.Need-loop-again Inv-loop μ-loop
 loop-again c =
-    let s = c .before .before .before .before .before .before .before .before .before .before in
-    let l = c .before .before .before .before .loop in (
+    let a = c .before .before .before .before .before .before .before .before .args in
+    let l = c .before .before .loop in
+    let b = c .bounds-of in
+    let e = l .inv .1 in (
       omega arith,
-      simp length-set (l .inv .1),
+      e,
       simp length-set (l .inv .2),
-      box-more (s .args .steps) (s .args .slots .now) (s .args .own .now) (s .args .c) (s .args .q) (l .low) (l .high) (l .j) _ _ _
-          (omega arith) (omega arith) (c .before .before .before .before .before .level-of .ensures .0) (c .before .low-of .ensures) (c .high-of .ensures) (l .inv .3),
+      simp length-set (l .inv .3),
+      rw e (box-more (a .logic) (a .slots .now) (a .own .now) (a .c) (a .q) (l .low) (l .high) (a .level) (l .j) (b .result .low) (b .result .high) (omega arith) (omega arith) (b .ensures) (l .inv .4)),
+      rw e (others-set (a .level) (l .j) (b .result .low) (a .low .now) (l .low) (omega arith) (l .inv .5)),
+      rw e (others-set (a .level) (l .j) (b .result .high) (a .high .now) (l .high) (omega arith) (l .inv .6)),
     )
 
+same-length : tie.Need-same-length Inv-loop μ-loop
+same-length c = search needs
+
+same-length-2 : tie.Need-same-length-2 Inv-loop μ-loop
+same-length-2 c = search needs
+
 returns : tie.Need-returns Inv-loop μ-loop
-returns c = λ j h. c .before .loop .inv .3 j (omega arith)
+returns c =
+    let l = c .before .loop in
+    (λ j h. l .inv .4 j (omega arith), (l .inv .5, l .inv .6))
 
 pub make-box-spec : {M : Type 1} → statement M
 make-box-spec =
@@ -100,21 +87,17 @@ make-box-spec =
     (tie.spec
     Inv-loop
     μ-loop
-    mul-level-of
-    shared-slice-read-level-of
-    mul-level-of-2
-    add-level-of
-    shared-slice-read-level-of-2
-    level-of-requires
+    wide-requires
+    mul-row
     loop-holds
-    mul-grade
-    add-grade
-    shared-slice-read-grade
-    low-of-requires
-    element-write-low
-    high-of-requires
-    element-write-high
+    bounds-of-requires
+    add-low
+    slice-write-low
+    add-high
+    slice-write-high
     add-j
     loop-less
     loop-again
+    same-length
+    same-length-2
     returns)

@@ -10,18 +10,20 @@ use Rattle.witnesses.proofs.next_hit.Statement.{statement}
 use Rattle.witnesses.proofs.next_hit.Tie as tie
 
 abbrev Inv-loop : tie.InvT-loop
-Inv-loop low high slots child marks start d₀ d =
-    (start ≤ d) × ((e : ℕ) → e < d → start ≤ e → ¬ Hit slots low high child marks e)
+Inv-loop logic wanted low high slots q child marks start d₀ d =
+    (start ≤ d) × ((e : ℕ) → e < d → start ≤ e → ¬ Hit (logic .steps) slots q wanted low high child marks e)
 
 abbrev μ-loop : tie.MeasureT-loop
-μ-loop low high slots child marks start d₀ d =
-    length marks - d
+μ-loop logic wanted low high slots q child marks start d₀ d = length marks - d
 
 loop-holds : tie.Need-loop-holds Inv-loop μ-loop
 loop-holds c = (omega arith, λ e h s. absurd (omega arith))
 
 hit-requires : tie.Need-hit-requires Inv-loop μ-loop
-hit-requires c κs = search needs
+hit-requires c κs =
+    let s = c .before .before .before .before .before .before .before in
+    let p = s .pre .1 .0 in
+    (s .pre .0, (p .0, p .1, omega arith, omega arith, s .pre .1 .1 (c .before .loop .d) (omega arith), omega arith))
 
 returns : tie.Need-returns Inv-loop μ-loop
 returns c = record { passed = c .before .before .before .loop .inv .1; found = λ _. c .before .hit .ensures .0 (c .if1 .taken) }

@@ -3,27 +3,66 @@
 use mathlib.Core.Path.{refl}
 use native.Mathlib.Omega.{arith}
 use lib.ListN.{length}
+use borrow.Author.Needs.{needs}
 use Rattle.witnesses.specs.Tables.{tables}
 use Rattle.witnesses.proofs.Search.{next-witness}
 use Rattle.witnesses.proofs.next_witness.Statement.{statement}
 use Rattle.witnesses.proofs.next_witness.Tie as tie
 
-make-box-requires : tie.Need-make-box-requires
-make-box-requires c κs =
-    let s = c .before .before .before .before .before .before in
+slice-aggregate-make-boxes : tie.Need-slice-aggregate-make-boxes
+slice-aggregate-make-boxes c = search needs
+
+slice-aggregate-make-boxes-2 : tie.Need-slice-aggregate-make-boxes-2
+slice-aggregate-make-boxes-2 c = search needs
+
+slice-aggregate-make-boxes-3 : tie.Need-slice-aggregate-make-boxes-3
+slice-aggregate-make-boxes-3 c = search needs
+
+make-boxes-requires : tie.Need-make-boxes-requires
+make-boxes-requires c κs =
+    let s = c .before .before .before .before .before .before .before in
     let R = s .pre .0 in
-    let p = s .pre .1 in
-    ((p .2, R .few, omega arith, omega (arith, R .own-room)), ((refl, refl), λ j h. let k = R .kinds j h in (k .0, k .1, R .own-le (s .args .c) j (p .1) h)))
+    let p = s .pre .1 in (
+      (p .2, R .few, omega arith, omega (arith, R .own-room)),
+      ((R .low-steps, omega arith, omega arith, omega arith), λ j h. let k = R .kinds j h in (k .0, k .1, R .own-le (s .args .c) j (p .1) h)),
+    )
+
+slice-aggregate-next-hit : tie.Need-slice-aggregate-next-hit
+slice-aggregate-next-hit c = search needs
+
+slice-aggregate-next-hit-2 : tie.Need-slice-aggregate-next-hit-2
+slice-aggregate-next-hit-2 c = search needs
+
+slice-aggregate-next-hit-3 : tie.Need-slice-aggregate-next-hit-3
+slice-aggregate-next-hit-3 c = search needs
 
 next-hit-requires : tie.Need-next-hit-requires
 next-hit-requires c κs =
-    let s = c .before .before .before .before .before .before .before .before .before in
-    (s .pre .0 .few, s .pre .1 .0, s .pre .0 .child-room)
+    let s = c .before .before .before .before .before .before .before .before .before .before .before .before .before .before in
+    let R = s .pre .0 in
+    let p = s .pre .1 in
+    let k = c .before .before .before .before .before .before .make-boxes .kept .1 .1 .1 .1 .1 in (
+      (R .low-steps, omega (arith, k .0), omega (arith, k .1 .0), omega (arith, k .1 .1 .0)),
+      ((R .few, p .2, p .0, R .child-room), λ d h. omega (arith, R .low-steps, R .child-le d (s .args .q) h (p .2))),
+    )
 
 returns : tie.Need-returns
 returns c =
-    let s = c .before .before .before .before .before .before .before .before .before .before in
-    next-witness (tables (s .args .steps) (length (s .args .marks .now)) (s .args .slots .now) (s .args .own .now) (s .args .child .now)) (s .pre .0) (s .args .c) (s .args .q) _ _ (c .before .before .before .make-box .ensures) (s .args .marks .now) refl (s .args .start) _ (c .next-hit .ensures)
+    let s = c .before .before .before .before .before .before .before .before .before .before .before .before .before .before .before in
+    let a = s .args in
+    next-witness (tables (a .logic) (length (a .marks .now)) (a .slots .now) (a .own .now) (a .child .now)) (s .pre .0) (a .c) (a .q) (s .pre .1 .2) _ _ _
+    (c .before .before .before .before .before .before .before .make-boxes .ensures) (a .marks .now) refl (a .start) _ (c .next-hit .ensures)
 
 pub next-witness-spec : {M : Type 1} → statement M
-next-witness-spec = tie.close (tie.spec make-box-requires next-hit-requires returns)
+next-witness-spec =
+    tie.close
+    (tie.spec
+    slice-aggregate-make-boxes
+    slice-aggregate-make-boxes-2
+    slice-aggregate-make-boxes-3
+    make-boxes-requires
+    slice-aggregate-next-hit
+    slice-aggregate-next-hit-2
+    slice-aggregate-next-hit-3
+    next-hit-requires
+    returns)

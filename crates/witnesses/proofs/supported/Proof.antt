@@ -7,17 +7,19 @@ use lib.ListN.{length}
 use borrow.Author.Count.{below-none, below-more}
 use borrow.Author.Needs.{needs}
 use Rattle.chain.proofs.Decisions.{tells-yes, tells-no, told-yes, told-no}
-use Rattle.witnesses.specs.Tables.{slotCount, tables}
+use Rattle.slots.specs.Slots.{slotCount}
+use Rattle.witnesses.specs.Tables.{tables}
 use Rattle.witnesses.specs.Search.{Backed, Remembers}
 use Rattle.witnesses.proofs.supported.Statement.{statement}
 use Rattle.witnesses.proofs.supported.Tie as tie
 
 abbrev Inv-loop : tie.InvT-loop
-Inv-loop steps slots own child marks memory₀ c count q₀ memory q =
-    (q ≤ slotCount slots) × (length memory ≡ length memory₀) × Remembers (tables steps (length marks) slots own child) marks memory × ((p : ℕ) → p < q → Backed (tables steps (length marks) slots own child) marks c p)
+Inv-loop logic slots own child marks memory₀ c count q₀ memory q =
+    (q ≤ slotCount slots) × (length memory ≡ length memory₀) × Remembers (tables logic (length marks) slots own child) marks memory
+    × ((p : ℕ) → p < q → Backed (tables logic (length marks) slots own child) marks c p)
 
 abbrev μ-loop : tie.MeasureT-loop
-μ-loop steps slots own child marks memory₀ c count q₀ memory q =
+μ-loop logic slots own child marks memory₀ c count q₀ memory q =
     slotCount slots - q
 
 loop-holds : tie.Need-loop-holds Inv-loop μ-loop
@@ -34,7 +36,9 @@ same-length : tie.Need-same-length Inv-loop μ-loop
 same-length c = search needs
 
 returns : tie.Need-returns Inv-loop μ-loop
-returns c = (tells-no (λ h. told-no _ (c .before .before .before .backed .ensures .0) (c .if1 .taken) (h (c .before .before .before .before .before .before .loop .q) (omega arith))), c .before .before .before .backed .ensures .1)
+returns c =
+    let b = c .before .before .before .backed .ensures in
+    (tells-no (λ h. told-no _ (b .0) (c .if1 .taken) (h (c .before .before .before .before .before .before .loop .q) (omega arith))), b .1)
 
 add-q : tie.Need-add-q Inv-loop μ-loop
 add-q c = search needs
@@ -45,7 +49,8 @@ loop-less c = search needs
 loop-again : tie.Need-loop-again Inv-loop μ-loop
 loop-again c =
     let l = c .before .before .before .before .before .before .loop in
-    (omega arith, omega (arith, c .before .before .before .backed .kept), c .before .before .before .backed .ensures .1, below-more _ (l .q) (l .inv .3) (told-yes _ (c .before .before .before .backed .ensures .0) (c .if1 .left)))
+    let b = c .before .before .before .backed in
+    (omega arith, omega (arith, b .kept), b .ensures .1, below-more _ (l .q) (l .inv .3) (told-yes _ (b .ensures .0) (c .if1 .left)))
 
 same-length-2 : tie.Need-same-length-2 Inv-loop μ-loop
 same-length-2 c = search needs

@@ -10,11 +10,7 @@ use Rattle.book.specs.Reading.{bookOf}
 use Rattle.book.proofs.Opening.{counted-candidates, counted-small}
 use Rattle.elimination.specs.Marks.{marked}
 use Rattle.decider.proofs.Deciding.{decision-refused, decision-decided, decide-room, marked-in, settled}
-use Rattle.decider.proofs.decide_counted.Reads as decide-counted-reads
 use Rattle.writer.proofs.Writing.{write-refused, write-decided}
-use Rattle.writer.proofs.write_counted.Reads as reads
-use Rattle.writer.proofs.write_counted.Lts as lts
-use Rattle.writer.proofs.write_decided.Reads as write-decided-reads
 use Rattle.writer.proofs.write_counted.Statement.{statement}
 use Rattle.writer.proofs.write_counted.Tie as tie
 

@@ -6,9 +6,6 @@ use lib.ListN.{length}
 use borrow.Author.Needs.{needs}
 use Rattle.book.specs.Reading.{bookOf}
 use Rattle.writer.proofs.Writing.{model-17, model-18, model-refused}
-use Rattle.writer.proofs.write_decided.Reads as reads
-use Rattle.writer.proofs.write_decided.Lts as lts
-use Rattle.writer.proofs.write_few.Reads as write-few-reads
 use Rattle.writer.proofs.write_decided.Statement.{statement}
 use Rattle.writer.proofs.write_decided.Tie as tie
 

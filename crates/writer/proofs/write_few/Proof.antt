@@ -7,14 +7,9 @@ use native.Mathlib.Omega.{arith}
 use lib.ListN.{drop, length}
 use borrow.Author.Needs.{needs}
 use Rattle.book.specs.Reading.{bookOf}
-use Rattle.sheets.proofs.end_at.Reads as end-at-reads
 use Rattle.writer.specs.declared.Written.the-variants.{Sheet}
 use Rattle.writer.specs.Writing.{modelBytes}
 use Rattle.writer.proofs.Writing.{model-19, model-none, model-refused, model-written, end-model, shape-few, placement-held}
-use Rattle.writer.proofs.write_few.Reads as reads
-use Rattle.writer.proofs.write_few.Lts as lts
-use Rattle.writer.proofs.shape_in.Reads as shape-in-reads
-use Rattle.writer.proofs.write_marked.Reads as write-marked-reads
 use Rattle.writer.proofs.write_few.Statement.{statement}
 use Rattle.writer.proofs.write_few.Tie as tie
 

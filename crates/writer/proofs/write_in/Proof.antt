@@ -6,11 +6,7 @@ use lib.ListN.{length}
 use borrow.Author.Needs.{needs}
 use Rattle.book.proofs.Opening.{counted-declined}
 use Rattle.decider.proofs.Deciding.{decide-before, refused}
-use Rattle.book.proofs.count_in.Reads as count-in-reads
 use Rattle.writer.proofs.Writing.{write-refused}
-use Rattle.writer.proofs.write_in.Reads as reads
-use Rattle.writer.proofs.write_in.Lts as lts
-use Rattle.writer.proofs.write_counted.Reads as write-counted-reads
 use Rattle.writer.proofs.write_in.Statement.{statement}
 use Rattle.writer.proofs.write_in.Tie as tie
 

@@ -5,11 +5,7 @@ use lib.ListN.{length}
 use borrow.Author.Needs.{needs}
 use Rattle.book.proofs.Opening.{opened-accepted, counted-declined, counted-refused}
 use Rattle.decider.proofs.Deciding.{decide-before, refused}
-use Rattle.book.proofs.open.Reads as open-reads
 use Rattle.writer.proofs.Writing.{write-refused}
-use Rattle.writer.proofs.write_sheet.Reads as reads
-use Rattle.writer.proofs.write_sheet.Lts as lts
-use Rattle.writer.proofs.write_in.Reads as write-in-reads
 use Rattle.writer.proofs.write_sheet.Statement.{statement}
 use Rattle.writer.proofs.write_sheet.Tie as tie
 
