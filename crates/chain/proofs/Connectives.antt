@@ -8,8 +8,7 @@ use native.Mathlib.Nat.{not-suc-le-zero}
 use native.Mathlib.Numerals.{add-one}
 use native.Mathlib.Omega.{arith}
 use borrow.Author.Count.{below-more}
-use Rattle.chain.specs.Search.{First, first}
-use Rattle.chain.specs.Connectives.{Connectives, Lawful, zadeh, Wants, Quantifier, existential, universal, through, Within, within?, neutral, join, over}
+use Rattle.chain.specs.Connectives.{Connectives, Lawful, zadeh, Quantifier, existential, universal, through, Within, within?, neutral, join, over}
 
 pub zadeh-lawful : (N : ℕ) → Lawful N (zadeh N)
 zadeh-lawful N = record {
@@ -88,22 +87,6 @@ join-which q x y = dite (within? q x y) (λ h. inr (second q h)) (λ n. inl (fir
     firstOf : (k : Quantifier) → ¬ Within k x y → join k x y ≡ x
     firstOf existential n = omega arith
     firstOf universal n = omega arith
-
--- ---- the link that a term wants
-
--- every lawful logic has one: the first at which it reaches its grade, or one above the chain
-pub want-exists : (N : ℕ) (L : Connectives) → Lawful N L → (q : Quantifier) (g y : ℕ) → y ≤ N → (w : ℕ) × Wants N L q g y w
-want-exists N L w q g y hy = go (first (λ t. within? q g (through L q t y)) (suc N))
-  where
-    go : First (λ t. within? q g (through L q t y)) (suc N) → (w : ℕ) × Wants N L q g y w
-    go (inl u) = (
-      u .0,
-      λ s hs. (
-        λ h. within-trans q _ _ _ (u .2) (through-mono N L w q (u .0) s y h hs hy),
-        λ r. let m : ¬ (s < u .0) = λ k. u .3 s k r in omega arith,
-      ),
-    )
-    go (inr f) = (suc N, λ s hs. (λ h. absurd (omega arith), λ r. absurd (f s (omega arith) r)))
 
 -- ---- over the elements: a bound of every value, the least such bound, and one of the values
 

@@ -1,12 +1,11 @@
--- When a candidate is a witness, for every lawful logic: some link at which the term reaches its grade is allowed; and the least such link,
--- the one that the term wants at the child's grade, decides.
+-- When a candidate is a witness, for every lawful logic: some link at which the term reaches its grade is allowed.
 -- Assumes nothing.
 use mathlib.Core.Path.{_≡_, subst}
 use mathlib.Core.Logic.{_↔_}
 use Prim.Native.Nat.{ℕ, _≤_, _<_}
-use native.Mathlib.Nat.{le-refl, le-trans}
+use native.Mathlib.Nat.{le-refl}
 use lib.ListN.{length}
-use Rattle.chain.specs.Connectives.{Quantifier, through, Within, Wants}
+use Rattle.chain.specs.Connectives.{Quantifier, through, Within}
 use Rattle.chain.proofs.Connectives.{within-refl, within-trans, within-antisymm, through-mono}
 use Rattle.semantics.specs.Terms.{term}
 use Rattle.semantics.specs.Quantified.{quantified}
@@ -37,16 +36,4 @@ module _ (G : Grading) (w : WellFormed G) (c d i : ℕ) (l : i < length (G .term
         (through-mono (G .steps) (G .connectives) (w .lawful) q (u .0) (link G r c d) _ (link-most G r c d (u .0) (u .1 .0) (u .1 .2)) (link-le G r c d)
         (gradeIn-le G w d x (child-in G w i l q r x e))))
         (link-bounded G r c d w i l q x e),
-  )
-
-  -- so it is enough to test one level
-  pub witnesses-want : (v : ℕ) → Wants (G .steps) (G .connectives) q (gradeIn G c i) (gradeIn G d x) v
-      → Witnesses G c i q r x d ↔ ((v ≤ G .steps) × Allows G r (gradeIn G c) (gradeIn G d) v)
-  witnesses-want v f = (
-    λ h.
-        let u = witnesses-through .0 h in
-        let k : v ≤ u .0 = f (u .0) (u .1 .0) .1 (u .1 .1) in
-        let n : v ≤ G .steps = le-trans k (u .1 .0) in
-        (n, link-allows G r c d w v n .0 (le-trans k (link-most G r c d (u .0) (u .1 .0) (u .1 .2)))),
-    λ h. witnesses-through .1 (v, (h .0, f v (h .0) .0 (le-refl _), h .1)),
   )
