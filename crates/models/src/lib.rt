@@ -278,7 +278,8 @@ pub fn write_model(
     requires { ⌜ TermsRight (now terms) ⌝ }
     requires { ⌜ (length (now types) ≤ 64) × (termCount (now terms) ≤ 64) × (names ≤ 16) × (roles ≤ 8) × (length (now seats) ≤ 8) ⌝ }
     requires { ⌜ endAt (shapeFor steps names roles (length (now seats)) (modelOf logic (now terms) (now types) (now seats))) ≤ length (now sheet) ⌝ }
-    ensures { λ _. ⌜ now (sheet .exit) ≡ sheetBytes steps names roles (length (now (seats .entry))) (modelOf logic (now (terms .entry)) (now (types .entry)) (now (seats .entry))) ++ drop (endAt (shapeFor steps names roles (length (now (seats .entry))) (modelOf logic (now (terms .entry)) (now (types .entry)) (now (seats .entry))))) (now (sheet .entry)) ⌝ }
+    ensures { λ _. ⌜ now (sheet .exit) ≡ sheetBytes steps names roles (length (now (seats .entry))) (modelOf logic (now (terms .entry)) (now (types .entry)) (now (seats .entry)))
+        ++ drop (endAt (shapeFor steps names roles (length (now (seats .entry))) (modelOf logic (now (terms .entry)) (now (types .entry)) (now (seats .entry))))) (now (sheet .entry)) ⌝ }
 {
     let mut rows = [0u8; 4096];
     fill_rows(terms, logic, types, &mut rows);

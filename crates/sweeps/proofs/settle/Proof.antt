@@ -32,8 +32,14 @@ sweep-requires-2 c κs =
     let s = c .before .before .before .before .before .before .before .before .before .before .before .before .before .before .before in
     let f = c .before .before .before .before .before .before .before .sweep in
     let e = f .kept .1 .1 .1 .1 .0 in
-    let l = c .before .before .loop in
-    (ready-sized (s .args .logic) (length (s .args .marks .now)) (length (l .marks)) (s .args .slots .now) (s .args .own .now) (s .args .child .now) (sym e ∙ sym (l .inv .0)) (s .pre .0), (omega (arith, l .inv .0, l .inv .1, f .kept, s .pre .1 .0), state-sized (s .args .logic) (length (f .last .1 .1 .1 .1 .0)) (length (l .marks)) (s .args .slots .now) (s .args .own .now) (s .args .child .now) (sym (l .inv .0)) _ _ _ (l .inv .2)))
+    let l = c .before .before .loop in (
+      ready-sized (s .args .logic) (length (s .args .marks .now)) (length (l .marks)) (s .args .slots .now) (s .args .own .now) (s .args .child .now) (sym e ∙ sym (l .inv .0)) (s .pre .0),
+      (
+        omega (arith, l .inv .0, l .inv .1, f .kept, s .pre .1 .0),
+        state-sized (s .args .logic) (length (f .last .1 .1 .1 .1 .0)) (length (l .marks)) (s .args .slots .now) (s .args .own .now)
+            (s .args .child .now) (sym (l .inv .0)) _ _ _ (l .inv .2),
+      ),
+    )
 
 same-length : tie.Need-same-length Inv-loop μ-loop
 same-length c = omega (arith, c .before .before .before .before .before .sweep2 .kept, c .before .before .before .before .before .before .before .before .loop .inv, c .before .before .before .before .before .before .before .before .before .before .before .before .before .sweep .kept)
@@ -48,8 +54,11 @@ returns c =
     let e = f .kept .1 .1 .1 .1 .0 in
     let l = c .before .before .before .before .before .before .before .before .loop in
     let v = c .before .before .before .before .before .sweep2 in
-    settled (tables (s .args .logic) (length (s .args .marks .now)) (s .args .slots .now) (s .args .own .now) (s .args .child .now)) (s .args .marks .now) (l .marks) _ _ (l .rest) _ (omega arith) (reduced-then (tables (s .args .logic) (length (s .args .marks .now)) (s .args .slots .now) (s .args .own .now) (s .args .child .now)) (s .args .marks .now) (f .last .1 .1 .1 .1 .0) (l .marks) (f .ensures .1 .reduced) (reduced-sized (s .args .logic) (length (f .last .1 .1 .1 .1 .0)) (length (s .args .marks .now)) (s .args .slots .now) (s .args .own .now) (s .args .child .now) e _ _ (l .inv .3)))
-    (state-sized (s .args .logic) (length (l .marks)) (length (s .args .marks .now)) (s .args .slots .now) (s .args .own .now) (s .args .child .now) (l .inv .0 ∙ e) _ _ _ (v .ensures .0)) (swept-sized (s .args .logic) (length (l .marks)) (length (s .args .marks .now)) (s .args .slots .now) (s .args .own .now) (s .args .child .now) (l .inv .0 ∙ e) _ _ _ _ (v .ensures .1))
+    settled (tables (s .args .logic) (length (s .args .marks .now)) (s .args .slots .now) (s .args .own .now) (s .args .child .now)) (s .args .marks .now) (l .marks) _ _ (l .rest) _ (omega arith)
+    (reduced-then (tables (s .args .logic) (length (s .args .marks .now)) (s .args .slots .now) (s .args .own .now) (s .args .child .now)) (s .args .marks .now) (f .last .1 .1 .1 .1 .0) (l .marks)
+    (f .ensures .1 .reduced) (reduced-sized (s .args .logic) (length (f .last .1 .1 .1 .1 .0)) (length (s .args .marks .now)) (s .args .slots .now) (s .args .own .now) (s .args .child .now) e _ _ (l .inv .3)))
+    (state-sized (s .args .logic) (length (l .marks)) (length (s .args .marks .now)) (s .args .slots .now) (s .args .own .now) (s .args .child .now) (l .inv .0 ∙ e) _ _ _ (v .ensures .0))
+    (swept-sized (s .args .logic) (length (l .marks)) (length (s .args .marks .now)) (s .args .slots .now) (s .args .own .now) (s .args .child .now) (l .inv .0 ∙ e) _ _ _ _ (v .ensures .1))
 
 loop-less : tie.Need-loop-less Inv-loop μ-loop
 loop-less c = omega (arith, c .before .before .before .before .before .sweep2 .ensures .1 .fewer)

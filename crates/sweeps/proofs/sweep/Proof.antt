@@ -28,8 +28,14 @@ visit-requires : tie.Need-visit-requires Inv-loop μ-loop
 visit-requires c κs =
     let s = c .before .before .before .before .before .before .before .before .before in
     let l = c .before .before .before .loop in
-    let p = s .pre .1 .0 in
-    (ready-sized (s .args .logic) (length (s .args .marks .now)) (length (l .marks)) (s .args .slots .now) (s .args .own .now) (s .args .child .now) (sym (l .inv .1)) (s .pre .0), (omega (arith, l .inv .1, l .inv .2), state-sized (s .args .logic) (length (s .args .marks .now)) (length (l .marks)) (s .args .slots .now) (s .args .own .now) (s .args .child .now) (sym (l .inv .1)) _ _ _ (l .inv .3)))
+    let p = s .pre .1 .0 in (
+      ready-sized (s .args .logic) (length (s .args .marks .now)) (length (l .marks)) (s .args .slots .now) (s .args .own .now) (s .args .child .now) (sym (l .inv .1)) (s .pre .0),
+      (
+        omega (arith, l .inv .1, l .inv .2),
+        state-sized (s .args .logic) (length (s .args .marks .now)) (length (l .marks)) (s .args .slots .now) (s .args .own .now) (s .args .child .now)
+            (sym (l .inv .1)) _ _ _ (l .inv .3),
+      ),
+    )
 
 add-c : tie.Need-add-c Inv-loop μ-loop
 add-c c = search needs
