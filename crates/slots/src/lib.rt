@@ -1,11 +1,14 @@
-// The quantified terms of a book, collected once: for eliminating and for placing.
+// The quantified terms of a book, collected once, for eliminating and for placing; and the grades that links are judged by, as a row.
 ghost use mathlib.Core.Path.{_≡_};
-ghost use Prim.Native.Nat.{_+_, _*_, _<_, _≤_};
-ghost use lib.ListN.{length, take};
+ghost use Prim.Native.Nat.{ℕ, _+_, _*_, _<_, _≤_};
+ghost use lib.ListN.{length, getD, take};
 ghost use Rattle.semantics.specs.Candidates.{places};
 ghost use Rattle.sections.specs.Terms.{termCount, termsOf};
-ghost use Rattle.slots.specs.Slots.{SlotsOf};
+ghost use Rattle.slots.specs.Slots.{slotCount, SlotsOf};
+ghost use Rattle.slots.specs.Rows.{TermsBelow, SlotRow};
 ghost use Rattle.slots.specs.Collecting.{SlotsCollected, written};
+
+// ---- the slots
 
 fn write_slot(slots: &mut [u8], m: usize, kind: u8, role: u8, child: u8, term: u8)
     requires { ⌜ (m < 16) × (64 ≤ length (now slots)) ⌝ }
@@ -47,4 +50,22 @@ pub fn collect(terms: &[u8], slots: &mut [u8]) -> usize
         i += 1;
     }
     m
+}
+
+// ---- the row of the slots
+
+// Writes the row of the slots, from the row of all grades: the grades of their own terms, and behind these the grades of their children.
+pub fn put_slot_row(slots: &[u8], row: &[u8], part: &mut [u8])
+    requires { ⌜ (2 * slotCount (now slots) ≤ length (now part)) × TermsBelow (now slots) (length (now row)) ⌝ }
+    ensures { λ _. ⌜ SlotRow (now (slots .entry)) (λ i. getD (now (row .entry)) i 0) (now (part .exit)) ⌝ }
+{
+    let count = slots.len() / 4;
+    let mut q = 0;
+    while q < count {
+        let term = slots[4 * q + 3] as usize;
+        let below = slots[4 * q + 2] as usize;
+        part[q] = row[term];
+        part[count + q] = row[below];
+        q += 1;
+    }
 }
