@@ -1,12 +1,13 @@
 -- Laws of lists cut into blocks of one width, as a section of a file is into records.
 -- Assumes nothing.
-use mathlib.Core.Path.{_≡_, sym, _∙_}
-use mathlib.Core.List.{List, flatMap}
-use Prim.Native.Nat.{ℕ, zero, suc, _+_, _*_, _/_, _≤_, _<_}
+use mathlib.Core.Path.{_≡_, refl, sym, ap, subst, _∙_}
+use mathlib.Core.List.{List, [], _∷_, _++_, flatMap}
+use Prim.Native.Nat.{ℕ, zero, suc, _+_, _-_, _*_, _/_, _≤_, _<_}
 use native.Mathlib.Nat.{mul-zero, mul-suc, suc-mul, mul-le-mul-left, mul-le-mul-right, div-eq-of-eq-mul-right}
 use native.Mathlib.Omega.{arith}
 use lib.ListN.{length, getD, take, drop, length-take, length-drop}
-use lib.Seq.{take-all, take-add, drop-drop, getD-take, getD-drop, ext-getD}
+use lib.Seq.{length-take-le, take-all, take-add, take-take, take-at, drop-at, drop-drop, getD-take, getD-drop, ext-getD}
+use borrow.Author.Count.{below-more}
 use Rattle.chain.specs.Lists.{table}
 use Rattle.chain.proofs.Lists.{length-table, getD-table}
 
@@ -40,6 +41,43 @@ module _ {A B : Type 0} (f : A → List B) where
             ∙ take-all (w * (length s / w)) s (omega arith),
         length-table r (length s / w) ∙ q,
       )
+
+-- ---- one block: the w entries from index s on
+
+module _ {A : Type 0} where
+  -- by its bounds, as code has them
+  pub block-part : (w s : ℕ) (xs : List A) → take (s + w - s) (drop s xs) ≡ take w (drop s xs)
+  block-part w s xs = let e : s + w - s ≡ w = omega arith in rw e
+
+  pub length-block : (w s : ℕ) (xs : List A) → s + w ≤ length xs → length (take w (drop s xs)) ≡ w
+  length-block w s xs h = length-take-le w (drop s xs) (omega (arith, length-drop s xs))
+
+  -- one that is put behind the first s entries
+  module _ (xs block rest : List A) (s : ℕ) (long : s ≤ length xs) where
+    pub put-before : take s (take s xs ++ (block ++ rest)) ≡ take s xs
+    put-before = take-at (take s xs) (block ++ rest) s (length-take-le s xs long)
+
+    pub put-here : (w : ℕ) → length block ≡ w → take w (drop s (take s xs ++ (block ++ rest))) ≡ block
+    put-here w h = ap (take w) (drop-at (take s xs) (block ++ rest) s (length-take-le s xs long)) ∙ take-at block rest w h
+
+  -- it depends on nothing behind it
+  block-front : (s w n : ℕ) (xs : List A) → s + w ≤ n → take w (drop s xs) ≡ take w (drop s (take n xs))
+  block-front zero w n xs h = sym (take-take w n xs (omega arith))
+  block-front (suc s) w zero xs h = absurd (omega arith)
+  block-front (suc s) w (suc n) [] h = refl
+  block-front (suc s) w (suc n) (x ∷ xs) h = block-front s w n xs (omega arith)
+
+  module _ (w k : ℕ) (old new : List A) (same : take (w * k) new ≡ take (w * k) old) where
+    -- so the blocks before number k stay where what lies before it does
+    pub block-kept : (j : ℕ) → j < k → take w (drop (w * j) new) ≡ take w (drop (w * j) old)
+    block-kept j l =
+        let h : w * j + w ≤ w * k = omega (arith, mul-suc w j, mul-le-mul-left w l) in
+        block-front (w * j) w (w * k) new h ∙ ap (λ (x : List A). take w (drop (w * j) x)) same ∙ sym (block-front (w * j) w (w * k) old h)
+
+    -- what holds of each block before number k, and of that one, holds of each up to it
+    pub each-block-more : (P : ℕ → List A → Type 0) → ((j : ℕ) → j < k → P j (take w (drop (w * j) old))) → P k (take w (drop (w * k) new))
+        → (j : ℕ) → j < k + 1 → P j (take w (drop (w * j) new))
+    each-block-more P each here = below-more (λ j. P j (take w (drop (w * j) new))) k (λ j l. subst (P j) (sym (block-kept j l)) (each j l)) here
 
 -- block k of n, each of width w, ends within them
 pub block-fits : (w k n : ℕ) → k < n → k * w + w ≤ n * w

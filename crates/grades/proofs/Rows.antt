@@ -1,15 +1,14 @@
 -- Laws of rows of grades, of tables of rows, and of the link of two rows: it is that of their candidates.
 -- Assumes nothing.
-use mathlib.Core.Path.{_≡_, refl, sym, ap, subst, _∙_}
+use mathlib.Core.Path.{_≡_, sym, ap, _∙_}
 use mathlib.Core.Logic.{_↔_}
-use mathlib.Core.List.{List, [], _∷_, _++_}
-use Prim.Native.Nat.{ℕ, zero, suc, _+_, _-_, _*_, _≤_, _<_}
+use mathlib.Core.List.{List, _++_}
+use Prim.Native.Nat.{ℕ, _+_, _*_, _≤_}
 use native.Mathlib.Omega.{arith}
-use lib.ListN.{length, getD, take, drop, length-drop, List·getD-append}
-use lib.Seq.{length-take-le, take-take, take-at, drop-at}
-use borrow.Author.Count.{below-more}
+use lib.ListN.{length, getD, take, List·getD-append}
 use Rattle.chain.specs.Lists.{table}
 use Rattle.chain.proofs.Lists.{length-table, getD-table, every-table}
+use Rattle.chain.proofs.Blocks.{length-block, each-block-more}
 use Rattle.semantics.specs.Terms.{Term, Ordered}
 use Rattle.semantics.specs.Interpretations.{Grading, WellFormed}
 use Rattle.semantics.specs.Candidates.{gradeIn}
@@ -50,37 +49,13 @@ row-terms l s c = ap (table (gradeIn (grading l (termsOf s)) c)) (length-terms s
 
 -- ---- a table of rows
 
--- a row, by the bounds that code has
-pub row-part : (rows : List ℕ) (k : ℕ) → take (64 * k + 64 - 64 * k) (drop (64 * k) rows) ≡ rowAt rows k
-row-part rows k = let e : 64 * k + 64 - 64 * k ≡ 64 = omega arith in rw e
-
 pub length-rowAt : (rows : List ℕ) (k : ℕ) → 64 * k + 64 ≤ length rows → length (rowAt rows k) ≡ 64
-length-rowAt rows k h = length-take-le 64 (drop (64 * k) rows) (omega (arith, length-drop (64 * k) rows))
-
--- a row that is put after the first k
-module _ (rows row rest : List ℕ) (k : ℕ) (long : 64 * k ≤ length rows) where
-  pub put-before : take (64 * k) (take (64 * k) rows ++ (row ++ rest)) ≡ take (64 * k) rows
-  put-before = take-at (take (64 * k) rows) (row ++ rest) (64 * k) (length-take-le (64 * k) rows long)
-
-  pub put-here : length row ≡ 64 → rowAt (take (64 * k) rows ++ (row ++ rest)) k ≡ row
-  put-here h = ap (take 64) (drop-at (take (64 * k) rows) (row ++ rest) (64 * k) (length-take-le (64 * k) rows long)) ∙ take-at row rest 64 h
-
--- a part depends on nothing behind it
-part-front : (n m k : ℕ) (l : List ℕ) → n + m ≤ k → take m (drop n l) ≡ take m (drop n (take k l))
-part-front zero m k l h = sym (take-take m k l (omega arith))
-part-front (suc n) m zero l h = absurd (omega arith)
-part-front (suc n) m (suc k) [] h = refl
-part-front (suc n) m (suc k) (x ∷ xs) h = part-front n m k xs (omega arith)
+length-rowAt rows k = length-block 64 (64 * k) rows
 
 -- one row more, where those before it stay
 pub each-row-more : (P : ℕ → List ℕ → Type 0) (k : ℕ) (old new : List ℕ) → take (64 * k) new ≡ take (64 * k) old → EachRow P k old → P k (rowAt new k)
     → EachRow P (k + 1) new
-each-row-more P k old new same each here = below-more (λ j. P j (rowAt new j)) k (λ j l. subst (P j) (sym (kept j l)) (each j l)) here
-  where
-    kept : (j : ℕ) → j < k → rowAt new j ≡ rowAt old j
-    kept j l =
-        part-front (64 * j) 64 (64 * k) new (omega arith) ∙ ap (λ (x : List ℕ). take 64 (drop (64 * j) x)) same
-        ∙ sym (part-front (64 * j) 64 (64 * k) old (omega arith))
+each-row-more P k old new same = each-block-more 64 k old new same P
 
 -- ---- the link of two rows
 

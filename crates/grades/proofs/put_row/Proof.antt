@@ -1,13 +1,15 @@
 -- `grades::put_row` meets its contract.
 -- Assumes nothing.
 use mathlib.Core.Path.{_≡_, sym, ap, subst, _∙_}
+use Prim.Native.Nat.{ℕ, _*_, _≤_}
 use native.Mathlib.Omega.{arith}
 use lib.ListN.{length}
 use borrow.Author.Needs.{needs}
+use Rattle.chain.proofs.Blocks.{block-part, length-block, put-before, put-here}
 use Rattle.gradings.specs.Gradings.{grading}
 use Rattle.sections.specs.Terms.{termsOf}
 use Rattle.grades.specs.Rows.{HasGrades}
-use Rattle.grades.proofs.Rows.{front-grades, row-part, length-rowAt, put-before, put-here}
+use Rattle.grades.proofs.Rows.{front-grades}
 use Rattle.grades.proofs.put_row.Statement.{statement}
 use Rattle.grades.proofs.put_row.Tie as tie
 
@@ -39,9 +41,11 @@ returns c =
     let f = c .before .before .fill-row in
     let G = grading (a .logic) (termsOf (a .terms .now)) in
     let row = f .last .1 .1 .1 .0 in
-    let long : length row ≡ 64 = f .kept .1 .1 .1 .0 ∙ ap length (row-part (a .rows .now) (a .k)) ∙ length-rowAt (a .rows .now) (a .k) (s .pre .1 .1) in (
-      put-before (a .rows .now) row _ (a .k) (omega (arith, s .pre .1 .1)),
-      subst (HasGrades G (a .c)) (sym (put-here (a .rows .now) row _ (a .k) (omega (arith, s .pre .1 .1)) long ∙ f .ensures)) (front-grades G (a .c) _),
+    let start : ℕ = 64 * a .k in
+    let within : start ≤ length (a .rows .now) = omega (arith, s .pre .1 .1) in
+    let long : length row ≡ 64 = f .kept .1 .1 .1 .0 ∙ ap length (block-part 64 start (a .rows .now)) ∙ length-block 64 start (a .rows .now) (s .pre .1 .1) in (
+      put-before (a .rows .now) row _ start within,
+      subst (HasGrades G (a .c)) (sym (put-here (a .rows .now) row _ start within 64 long ∙ f .ensures)) (front-grades G (a .c) _),
     )
 
 pub put-row-spec : {M : Type 1} → statement M

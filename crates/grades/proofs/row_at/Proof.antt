@@ -1,7 +1,8 @@
 -- `grades::row_at` meets its contract.
 -- Assumes nothing.
+use Prim.Native.Nat.{_*_}
 use borrow.Author.Needs.{needs}
-use Rattle.grades.proofs.Rows.{row-part}
+use Rattle.chain.proofs.Blocks.{block-part}
 use Rattle.grades.proofs.row_at.Statement.{statement}
 use Rattle.grades.proofs.row_at.Tie as tie
 
@@ -21,7 +22,7 @@ part-result-end : tie.Need-part-result-end
 part-result-end c = search needs
 
 returns : tie.Need-returns
-returns c = row-part (c .before .args .rows .now) (c .before .args .k)
+returns c = block-part 64 (64 * c .before .args .k) (c .before .args .rows .now)
 
 pub row-at-spec : {M : Type 1} → statement M
 row-at-spec =

@@ -5,9 +5,9 @@ use Prim.Native.Nat.{ℕ, _≤_, _+_, _*_, _-_}
 use native.Mathlib.Omega.{arith}
 use lib.ListN.{length, getD, length-set}
 use borrow.Author.Needs.{needs}
-use Rattle.slots.proofs.Rows.{slot-row-none, slot-row-more}
-use Rattle.slots.specs.Rows.{SlotRowTo}
 use Rattle.slots.specs.Slots.{slotCount}
+use Rattle.slots.specs.Rows.{SlotRowTo}
+use Rattle.slots.proofs.Rows.{slot-row-none, slot-row-more}
 use Rattle.slots.proofs.put_slot_row.Statement.{statement}
 use Rattle.slots.proofs.put_slot_row.Tie as tie
 
