@@ -6,7 +6,7 @@ use mathlib.Core.List.{List}
 use Prim.Native.Nat.{ℕ, _≤_, _<_}
 use lib.ListN.{length}
 use Rattle.gradings.specs.declared.Logic.{Logic}
-use Rattle.grades.specs.Rows.{rowAt}
+use Rattle.network.specs.Rows.{rowAt}
 use Rattle.network.specs.Constraints.{AllMet, OnChain}
 use Rattle.network.specs.Network.{between, Wired}
 use Rattle.domains.specs.Tables.{Allowed}
@@ -26,13 +26,13 @@ module _ (l : Logic) (net ends : List ℕ) where
     pub allowed : (j : ℕ) → j < n → Allowed table j (s j)
     pub fits : (j i : ℕ) → j < n → i < n → ¬ (i ≡ j) → Fits j i (rowAt rows (s j)) (rowAt rows (s i))
 
--- ---- what stays as it is throughout: a network over m terms, n individuals, candidates below count, and their rows
+-- ---- what stays as it is throughout: a network over m columns, n individuals, candidates below count, and their rows
 
 pub record Problem (l : Logic) (m : ℕ) (net ends : List ℕ) (count n : ℕ) (rows : List ℕ) : Type 0 where
   pub wired : Wired l m net ends
   pub candidates-few : count ≤ 16384
   pub individuals-few : n ≤ 8
-  pub rows-long : 1048576 ≤ length rows
+  pub rows-long : 524288 ≤ length rows
 
 -- the rows of the candidates in the table are on the chain
 abbrev pub Graded : Logic → (m count n : ℕ) (rows table : List ℕ) → Type 0

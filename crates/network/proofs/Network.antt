@@ -18,9 +18,9 @@ use Rattle.sections.specs.Claims.{claimCount, linkAt, LinksRight}
 use Rattle.gradings.specs.Gradings.{grading}
 use Rattle.gradings.specs.declared.Logic.{Logic}
 use Rattle.gradings.proofs.Gradings.{grading-well-formed}
-use Rattle.slots.specs.Slots.{slotCount, slotRole, SlotsOf}
+use Rattle.slots.specs.Slots.{slotCount, slotRole, slotChild, slotTerm, SlotsOf}
+use Rattle.slots.specs.Rows.{SlotRow}
 use Rattle.slots.proofs.Slots.{slot-child, slots-allow}
-use Rattle.grades.specs.Rows.{entry}
 use Rattle.network.specs.declared.Constraint.{Constraint}
 use Rattle.network.specs.Levels.{levelAt, LevelsOf}
 use Rattle.network.specs.Constraints.{constraintAt, Met, AllMet, Right, AllRight, OnChain}
@@ -151,54 +151,63 @@ module _ (slots levels : List ℕ) where
 governs-same : (G : Grading) (t r : ℕ) → Governs G t r ↔ (t ≡ r)
 governs-same G t r = (λ e. e, λ e. e)
 
-module _ (l : Logic) (ts : List Term) (o : Ordered ts) (slots : List ℕ) (S : SlotsOf ts slots)
-    (roles : (j : ℕ) → j < slotCount slots → slotRole slots j < 8) (ls levels net ends : List ℕ) (links : LinksRight ls (l .steps))
-    (of : NetworkOf slots ls levels net ends) (x : ℕ) (hx : x < 64) where
-  pub network-right : AllRight l (length ts) (constraintsOf net ends x)
-  network-right y h =
-      let w = of .lists x hx .are y (omega arith) h in
-      subst (Right l (length ts)) (sym (w .2)) (record {
-        kinds = S .kinds (w .0) (w .1);
-        level-le = levels-le ls levels (l .steps) links (of .levels-of) (slotRole slots (w .0)) x (roles (w .0) (w .1)) hx;
-        own-lt = S .terms (w .0) (w .1);
-        child-lt = slot-child ts o slots S (w .0) (w .1);
-      })
+module _ (l : Logic) (ts : List Term) (o : Ordered ts) (slots : List ℕ) (S : SlotsOf ts slots) where
+  -- a row of slots is on the chain where the grades are
+  pub slot-row-on-chain : (f : ℕ → ℕ) (row : List ℕ) → ((i : ℕ) → i < length ts → f i ≤ l .steps) → SlotRow slots f row → OnChain l (2 * slotCount slots) row
+  slot-row-on-chain f row on w t h =
+      dite (decLt t (slotCount slots)) (λ k. rw (w .own-is t k) (on (slotTerm slots t) (S .terms t k)))
+      (λ n. let q : ℕ = t - slotCount slots in
+      let k : q < slotCount slots = omega arith in
+      let e : slotCount slots + q ≡ t = omega arith in
+      rw (← e, w .child-is q k) (on (slotChild slots q) (slot-child ts o slots S q k)))
 
-  -- the constraints of a pair are met by two rows exactly if they allow each link that is claimed of it
-  pub network-met : (a b : List ℕ) → OnChain l (length ts) a → OnChain l (length ts) b
-      → AllMet l (constraintsOf net ends x) a b ↔ ClaimsMet (grading l ts) ls x a b
-  network-met a b on-a on-b = (to, from)
-    where
-      G : Grading
-      G = grading l ts
+  module _ (roles : (j : ℕ) → j < slotCount slots → slotRole slots j < 8) (ls levels net ends : List ℕ) (links : LinksRight ls (l .steps))
+      (of : NetworkOf slots ls levels net ends) (x : ℕ) (hx : x < 64) where
+    pub network-right : AllRight l (2 * slotCount slots) (constraintsOf net ends x)
+    network-right y h =
+        let w = of .lists x hx .are y (omega arith) h in
+        subst (Right l (2 * slotCount slots)) (sym (w .2)) (record {
+          kinds = S .kinds (w .0) (w .1);
+          level-le = levels-le ls levels (l .steps) links (of .levels-of) (slotRole slots (w .0)) x (roles (w .0) (w .1)) hx;
+          own-lt = omega (arith, w .1);
+          child-lt = omega (arith, w .1);
+        })
 
-      -- a link of grade 0 asks nothing
-      claimed : (r g : ℕ) → (0 < g → Allows G r (entry a) (entry b) g) → Allows G r (entry a) (entry b) g
-      claimed r g f =
-          dite (decLt 0 g) f (λ n. let e : 0 ≡ g = omega arith in subst (Allows G r (entry a) (entry b)) e
-          (up-to-link G r (entry a) (entry b) (grading-well-formed l ts o) on-a on-b 0 (omega arith) .0 (omega arith)))
+    -- the constraints of a pair are met by two rows of slots exactly if the grades that these are of allow each link that is claimed of the pair
+    pub network-met : (f g : ℕ → ℕ) → ((i : ℕ) → i < length ts → f i ≤ l .steps) → ((i : ℕ) → i < length ts → g i ≤ l .steps)
+        → (a b : List ℕ) → SlotRow slots f a → SlotRow slots g b → AllMet l (constraintsOf net ends x) a b ↔ ClaimsMet (grading l ts) ls x f g
+    network-met f g on-f on-g a b row-a row-b = (to, from)
+      where
+        G : Grading
+        G = grading l ts
 
-      to : AllMet l (constraintsOf net ends x) a b → ClaimsMet G ls x a b
-      to m i h e =
-          let r = linkAt ls i .role in
-          let g = levelAt levels r x in
-          let le = levels-le ls levels (l .steps) links (of .levels-of) r x (links i h .0) hx in
-          allows-down G r (entry a) (entry b) (grading-well-formed l ts o) on-a on-b (linkAt ls i .grade) g
-          (subst (λ (z : ℕ). linkAt ls i .grade ≤ levelAt levels r z) e (of .levels-of .most i h)) le
-          (claimed r g (λ p. slots-allow G slots S r (entry a) (entry b) g .0 (λ j hj w.
-          let same = governs-same G (slotRole slots j) r .0 w in
-          let u = of .lists x hx .onto j hj (rw same p) in
-          rw (← same) (subst (λ (k : Constraint). Met l k a b) (u .3) (m (u .0) (u .2))))))
+        -- a link of grade 0 asks nothing
+        claimed : (r v : ℕ) → (0 < v → Allows G r f g v) → Allows G r f g v
+        claimed r v h =
+            dite (decLt 0 v) h (λ n. let e : 0 ≡ v = omega arith in subst (Allows G r f g) e
+            (up-to-link G r f g (grading-well-formed l ts o) on-f on-g 0 (omega arith) .0 (omega arith)))
 
-      from : ClaimsMet G ls x a b → AllMet l (constraintsOf net ends x) a b
-      from c y h =
-          let w = of .lists x hx .are y (omega arith) h in
-          let j = w .0 in
-          let r = slotRole slots j in
-          let g = levelAt levels r x in
-          subst (λ (k : Constraint). Met l k a b) (sym (w .2))
-          (slots-allow G slots S r (entry a) (entry b) g .1
-          (claimed r g (λ p. let u = of .levels-of .some r x (roles j (w .1)) hx p in
-          subst (Allows G r (entry a) (entry b)) (u .4)
-          (subst (λ (z : ℕ). Allows G z (entry a) (entry b) (linkAt ls (u .0) .grade)) (u .2) (c (u .0) (u .1) (u .3)))))
-          j (w .1) (governs-same G r r .1 refl))
+        to : AllMet l (constraintsOf net ends x) a b → ClaimsMet G ls x f g
+        to m i h e =
+            let r = linkAt ls i .role in
+            let v = levelAt levels r x in
+            let le = levels-le ls levels (l .steps) links (of .levels-of) r x (links i h .0) hx in
+            allows-down G r f g (grading-well-formed l ts o) on-f on-g (linkAt ls i .grade) v
+            (subst (λ (z : ℕ). linkAt ls i .grade ≤ levelAt levels r z) e (of .levels-of .most i h)) le
+            (claimed r v (λ p. slots-allow G slots S r f g v .0 (λ j hj w.
+            let same = governs-same G (slotRole slots j) r .0 w in
+            let u = of .lists x hx .onto j hj (rw same p) in
+            rw (← same, ← row-a .own-is j hj, ← row-b .child-is j hj) (subst (λ (k : Constraint). Met l k a b) (u .3) (m (u .0) (u .2))))))
+
+        from : ClaimsMet G ls x f g → AllMet l (constraintsOf net ends x) a b
+        from c y h =
+            let w = of .lists x hx .are y (omega arith) h in
+            let j = w .0 in
+            let r = slotRole slots j in
+            let v = levelAt levels r x in
+            subst (λ (k : Constraint). Met l k a b) (sym (w .2))
+            (rw (row-a .own-is j (w .1), row-b .child-is j (w .1)) (slots-allow G slots S r f g v .1
+            (claimed r v (λ p. let u = of .levels-of .some r x (roles j (w .1)) hx p in
+            subst (Allows G r f g) (u .4)
+            (subst (λ (z : ℕ). Allows G z f g (linkAt ls (u .0) .grade)) (u .2) (c (u .0) (u .1) (u .3)))))
+            j (w .1) (governs-same G r r .1 refl)))

@@ -1,4 +1,4 @@
--- Constraints: what one quantified term asks of the rows of two individuals, through a link of a claimed level from the one to the other.
+-- Constraints: what one slot asks of two individuals' rows of slots, through a link of a claimed level from the one to the other.
 -- Assumes nothing.
 use mathlib.Core.List.{List}
 use Prim.Native.Nat.{ℕ, _+_, _*_, _/_, _≤_, _<_}
@@ -10,7 +10,7 @@ use Rattle.gradings.specs.declared.Logic.{Logic}
 use Rattle.grades.specs.Rows.{entry}
 use Rattle.network.specs.declared.Constraint.{Constraint}
 
--- four bytes each: kind, level, own term, child
+-- four bytes each: kind, level, and the columns of the own grade and of the child's grade
 module _ (s : List ℕ) where
   abbrev pub constraintCount : ℕ
   constraintCount = length s / 4
@@ -18,7 +18,7 @@ module _ (s : List ℕ) where
   abbrev pub constraintAt : ℕ → Constraint
   constraintAt y = record { kind = getD s (4 * y) 0; level = getD s (4 * y + 1) 0; own = getD s (4 * y + 2) 0; child = getD s (4 * y + 3) 0 }
 
--- the term allows a link of this level: by the row a of the link's source and the row b of its target
+-- the slot allows a link of this level: by the row a of the link's source and the row b of its target
 abbrev pub Met : Logic → Constraint → (a b : List ℕ) → Type 0
 Met l k a b = Permits (connectivesOf l) (quantifierOf (k .kind)) (k .level) (entry b (k .child)) (entry a (k .own))
 
@@ -26,7 +26,7 @@ Met l k a b = Permits (connectivesOf l) (quantifierOf (k .kind)) (k .level) (ent
 abbrev pub AllMet : Logic → (s a b : List ℕ) → Type 0
 AllMet l s a b = (y : ℕ) → y < constraintCount s → Met l (constraintAt s y) a b
 
--- a constraint on terms below m, on the chain
+-- a constraint on columns below m, on the chain
 pub record Right (l : Logic) (m : ℕ) (k : Constraint) : Type 0 where
   pub kinds : (4 ≤ k .kind) × (k .kind ≤ 5)
   pub level-le : k .level ≤ l .steps

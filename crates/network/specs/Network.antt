@@ -8,8 +8,7 @@ use Rattle.semantics.specs.Interpretations.{Grading}
 use Rattle.semantics.specs.Links.{Allows}
 use Rattle.sections.specs.Claims.{claimCount, linkAt}
 use Rattle.gradings.specs.declared.Logic.{Logic}
-use Rattle.slots.specs.Slots.{slotCount, slotKind, slotRole, slotChild, slotTerm}
-use Rattle.grades.specs.Rows.{entry}
+use Rattle.slots.specs.Slots.{slotCount, slotKind, slotRole}
 use Rattle.network.specs.Levels.{pairOf, levelAt, LevelsOf}
 use Rattle.network.specs.Constraints.{constraintCount, constraintAt, AllRight}
 use Rattle.network.specs.declared.Constraint.{Constraint}
@@ -28,19 +27,19 @@ module _ (net ends : List ℕ) where
   abbrev pub Laid : Type 0
   Laid = (x : ℕ) → x < 64 → (getD ends x 0 ≤ getD ends (x + 1) 0) × (4 * getD ends (x + 1) 0 ≤ length net) × (getD ends (x + 1) 0 ≤ getD ends x 0 + 64)
 
--- a network over m terms
+-- a network over m columns
 pub record Wired (l : Logic) (m : ℕ) (net ends : List ℕ) : Type 0 where
   pub laid : Laid net ends
   pub long : 65 ≤ length ends
   pub right : (x : ℕ) → x < 64 → AllRight l m (constraintsOf net ends x)
-  pub few : m ≤ 64
+  pub few : m ≤ 32
 
 -- ---- where the constraints come from
 
 module _ (slots levels : List ℕ) (x : ℕ) where
-  -- what slot j asks through the strongest link claimed of its role and pair x
+  -- what slot j asks through the strongest link claimed of its role and pair x, of its columns in a row of the slots
   abbrev pub ofSlot : ℕ → Constraint
-  ofSlot j = record { kind = slotKind slots j; level = levelAt levels (slotRole slots j) x; own = slotTerm slots j; child = slotChild slots j }
+  ofSlot j = record { kind = slotKind slots j; level = levelAt levels (slotRole slots j) x; own = j; child = slotCount slots + j }
 
   -- constraints `from` to `to` of the list are those of the slots below b for whose role a link is claimed
   pub record Lists (b : ℕ) (s : List ℕ) (from to : ℕ) : Type 0 where
@@ -53,9 +52,9 @@ pub record NetworkOf (slots ls levels net ends : List ℕ) : Type 0 where
   pub levels-of : LevelsOf ls (claimCount ls) levels
   pub lists : (x : ℕ) → x < 64 → Lists slots levels x (slotCount slots) (constraintsOf net ends x) 0 (constraintCount (constraintsOf net ends x))
 
--- what it stands for (`network-met` of proofs/Network): every link claim of pair x is met, by the rows a and b of the two individuals
-abbrev pub ClaimsMet : Grading → (ls : List ℕ) (x : ℕ) (a b : List ℕ) → Type 0
-ClaimsMet G ls x a b = (i : ℕ) → i < claimCount ls → pairOf (linkAt ls i) ≡ x → Allows G (linkAt ls i .role) (entry a) (entry b) (linkAt ls i .grade)
+-- what it stands for (`network-met` of proofs/Network): every link claim of pair x is met, where f and g give the grades of the two individuals
+abbrev pub ClaimsMet : Grading → (ls : List ℕ) (x : ℕ) (f g : ℕ → ℕ) → Type 0
+ClaimsMet G ls x f g = (i : ℕ) → i < claimCount ls → pairOf (linkAt ls i) ≡ x → Allows G (linkAt ls i .role) f g (linkAt ls i .grade)
 
 -- ---- on the way
 

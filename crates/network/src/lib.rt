@@ -1,24 +1,52 @@
-// The link claims as a network of constraints between individuals: of each ordered pair, what the quantified terms ask of the two rows.
+// The link claims as a network of constraints between individuals: of each ordered pair, what the quantified terms ask of the two rows of slots.
 ghost use mathlib.Core.Path.{_≡_};
 ghost use mathlib.Core.List.{List};
 ghost use Prim.Native.Nat.{ℕ, _+_, _*_, _<_, _≤_};
-ghost use lib.ListN.{length, getD};
+ghost use lib.ListN.{length, getD, take};
 ghost use Rattle.chain.specs.Decisions.{Tells};
 ghost use Rattle.sections.specs.Claims.{claimCount};
 ghost use Rattle.slots.specs.Slots.{slotCount, slotRole};
+ghost use Rattle.slots.specs.Rows.{TermsBelow, SlotRow};
+ghost use Rattle.grades.specs.Rows.{entry};
+ghost use Rattle.network.specs.Rows.{rowAt};
 ghost use Rattle.network.specs.Levels.{ClaimsRanged, LevelsOf};
 ghost use Rattle.network.specs.Constraints.{constraintCount, constraintAt, Met, AllMet, AllRight};
 ghost use Rattle.network.specs.Network.{between as betweenOf, Laid, NetworkOf, SlotAdded, Added, Connected};
 use gradings::Logic;
 use gradings::permits;
 use sections::wide;
+use slots::put_slot_row;
 
-// What a quantified term of this kind, 4 "some" or 5 "all", asks through a link of this level.
+// What a slot of this kind, 4 "some" or 5 "all", asks through a link of this level: of the columns of the two rows that have its own grade and its
+// child's.
 pub struct Constraint {
     pub kind: u8,
     pub level: u8,
     pub own: u8,
     pub child: u8,
+}
+
+// ---- a table of rows of slots, 32 bytes each
+
+// Row `k`.
+pub fn row_at(rows: &[u8], k: usize) -> &[u8]
+    requires { ⌜ 32 * k + 32 ≤ length (now rows) ⌝ }
+    ensures { λ r. ⌜ now r ≡ rowAt (now (rows .entry)) k ⌝ }
+{
+    let start = 32 * k;
+    let end = start + 32;
+    &rows[start..end]
+}
+
+// Makes the row of the slots row `k`, from the row of all grades. Those before it stay.
+pub fn put_row(slots: &[u8], row: &[u8], rows: &mut [u8], k: usize)
+    requires { ⌜ (slotCount (now slots) ≤ 16) × TermsBelow (now slots) (length (now row)) × (32 * k + 32 ≤ length (now rows)) ⌝ }
+    ensures { λ _. ⌜ take (32 * k) (now (rows .exit)) ≡ take (32 * k) (now (rows .entry)) ⌝ }
+    ensures { λ _. ⌜ SlotRow (now (slots .entry)) (entry (now (row .entry))) (rowAt (now (rows .exit)) k) ⌝ }
+{
+    let start = 32 * k;
+    let end = start + 32;
+    put_slot_row(slots, row, &mut rows[start..end]);
 }
 
 // ---- the strongest claim of each role and pair
@@ -56,7 +84,8 @@ fn note_claims(links: &[u8], levels: &mut [u8])
 
 // Adds as number `m` what slot `j` asks through the strongest link claimed of its role and pair `x`. The number of constraints.
 fn put_slot(slots: &[u8], levels: &[u8], x: usize, j: usize, net: &mut [u8], m: usize) -> usize
-    requires { ⌜ (j < slotCount (now slots)) × (slotRole (now slots) j < 8) × (x < 64) × (512 ≤ length (now levels)) × (4 * m + 4 ≤ length (now net)) ⌝ }
+    requires { ⌜ (j < slotCount (now slots)) × (slotCount (now slots) ≤ 16) × (slotRole (now slots) j < 8) × (x < 64) × (512 ≤ length (now levels))
+        × (4 * m + 4 ≤ length (now net)) ⌝ }
     ensures { λ r. ⌜ SlotAdded (now (slots .entry)) (now (levels .entry)) x j (now (net .entry)) m (now (net .exit)) r ⌝ }
 {
     let role = wide(slots[4 * j + 1]);
@@ -64,10 +93,12 @@ fn put_slot(slots: &[u8], levels: &[u8], x: usize, j: usize, net: &mut [u8], m: 
     if level == 0 {
         return m;
     }
+    let own = j as u8;
+    let child = (slots.len() / 4 + j) as u8;
     net[4 * m] = slots[4 * j];
     net[4 * m + 1] = level;
-    net[4 * m + 2] = slots[4 * j + 3];
-    net[4 * m + 3] = slots[4 * j + 2];
+    net[4 * m + 2] = own;
+    net[4 * m + 3] = child;
     m + 1
 }
 
@@ -149,8 +180,8 @@ fn met(logic: Logic, k: Constraint, source: &[u8], target: &[u8]) -> bool
 }
 
 // Is every constraint of the list met? The first that is not decides.
-pub fn all_met(logic: Logic, s: &[u8], source: &[u8], target: &[u8], terms: usize) -> bool
-    requires { ⌜ AllRight logic terms (now s) × (terms ≤ length (now source)) × (terms ≤ length (now target)) ⌝ }
+pub fn all_met(logic: Logic, s: &[u8], source: &[u8], target: &[u8], columns: usize) -> bool
+    requires { ⌜ AllRight logic columns (now s) × (columns ≤ length (now source)) × (columns ≤ length (now target)) ⌝ }
     ensures { λ r. ⌜ Tells r (AllMet logic (now (s .entry)) (now (source .entry)) (now (target .entry))) ⌝ }
 {
     let count = s.len() / 4;

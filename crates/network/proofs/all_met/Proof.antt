@@ -13,10 +13,10 @@ use Rattle.network.proofs.all_met.Statement.{statement}
 use Rattle.network.proofs.all_met.Tie as tie
 
 abbrev Inv-loop : tie.InvT-loop
-Inv-loop logic s source target terms count y₀ y = (y ≤ constraintCount s) × ((z : ℕ) → z < y → Met logic (constraintAt s z) source target)
+Inv-loop logic s source target columns count y₀ y = (y ≤ constraintCount s) × ((z : ℕ) → z < y → Met logic (constraintAt s z) source target)
 
 abbrev μ-loop : tie.MeasureT-loop
-μ-loop logic s source target terms count y₀ y = constraintCount s - y
+μ-loop logic s source target columns count y₀ y = constraintCount s - y
 
 loop-holds : tie.Need-loop-holds Inv-loop μ-loop
 loop-holds c = (omega arith, below-none _)

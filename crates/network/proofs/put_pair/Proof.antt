@@ -27,7 +27,7 @@ put-slot-requires c κs =
     let s = c .before .before .before .before .before .before in
     let l = c .before .before .loop in
     let h : l .j < slotCount (s .args .slots .now) = omega arith in
-    (h, s .pre .0 .1 (l .j) h, s .pre .1 .0, s .pre .1 .1, omega (arith, l .inv .1, l .inv .2 .few, s .pre .0 .0, s .pre .1 .2))
+    (h, s .pre .0 .0, s .pre .0 .1 (l .j) h, s .pre .1 .0, s .pre .1 .1, omega (arith, l .inv .1, l .inv .2 .few, s .pre .0 .0, s .pre .1 .2))
 
 add-j : tie.Need-add-j Inv-loop μ-loop
 add-j c = search needs

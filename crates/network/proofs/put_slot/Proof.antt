@@ -37,6 +37,15 @@ returns c =
     let x = s .args .x in
     slot-unclaimed (s .args .slots .now) lv x (s .args .j) (s .args .net .now) (s .args .m) (ap (λ (z : ℕ). getD lv (64 * z + x) 0) (sym (c .before .before .wide .ensures .0)) ∙ c .if1 .taken)
 
+cast-own : tie.Need-cast-own
+cast-own c = search needs
+
+add-child : tie.Need-add-child
+add-child c = search needs
+
+cast-child : tie.Need-cast-child
+cast-child c = search needs
+
 mul-net : tie.Need-mul-net
 mul-net c = search needs
 
@@ -64,32 +73,14 @@ mul-net-4 c = search needs
 add-net-2 : tie.Need-add-net-2
 add-net-2 c = search needs
 
-shared-slice-read-net-2 : tie.Need-shared-slice-read-net-2
-shared-slice-read-net-2 c = search needs
+slice-write-net-3 : tie.Need-slice-write-net-3
+slice-write-net-3 c = simp length-set (omega arith)
 
 mul-net-5 : tie.Need-mul-net-5
 mul-net-5 c = search needs
 
 add-net-3 : tie.Need-add-net-3
 add-net-3 c = search needs
-
-slice-write-net-3 : tie.Need-slice-write-net-3
-slice-write-net-3 c = simp length-set (omega arith)
-
-mul-net-6 : tie.Need-mul-net-6
-mul-net-6 c = search needs
-
-add-net-4 : tie.Need-add-net-4
-add-net-4 c = search needs
-
-shared-slice-read-net-3 : tie.Need-shared-slice-read-net-3
-shared-slice-read-net-3 c = search needs
-
-mul-net-7 : tie.Need-mul-net-7
-mul-net-7 c = search needs
-
-add-net-5 : tie.Need-add-net-5
-add-net-5 c = search needs
 
 slice-write-net-4 : tie.Need-slice-write-net-4
 slice-write-net-4 c = simp length-set (omega arith)
@@ -102,8 +93,8 @@ same-length c = search needs
 
 returns-2 : tie.Need-returns-2
 returns-2 c =
-    let s = c .before .before .before .before .before .before .before .before .before .before in
-    rw (c .before .before .before .before .before .wide .ensures .0) (slot-put (s .args .slots .now) (s .args .levels .now) (s .args .x) (s .args .j) (s .args .net .now) (s .args .m) (s .pre .4))
+    let s = c .before .before .before .before .before .before .before .before in
+    rw (c .before .before .before .wide .ensures .0) (slot-put (s .args .slots .now) (s .args .levels .now) (s .args .x) (s .args .j) (s .args .net .now) (s .args .m) (s .pre .5))
 
 pub put-slot-spec : {M : Type 1} → statement M
 put-slot-spec =
@@ -117,6 +108,9 @@ put-slot-spec =
     add-level
     shared-slice-read-level
     returns
+    cast-own
+    add-child
+    cast-child
     mul-net
     shared-slice-read-net
     mul-net-2
@@ -126,15 +120,9 @@ put-slot-spec =
     slice-write-net-2
     mul-net-4
     add-net-2
-    shared-slice-read-net-2
+    slice-write-net-3
     mul-net-5
     add-net-3
-    slice-write-net-3
-    mul-net-6
-    add-net-4
-    shared-slice-read-net-3
-    mul-net-7
-    add-net-5
     slice-write-net-4
     add-result
     same-length
