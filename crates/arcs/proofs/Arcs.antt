@@ -12,7 +12,7 @@ use lib.Seq.{getD-set-same, getD-set-other}
 use Rattle.chain.proofs.Decisions.{never}
 use Rattle.chain.proofs.Search.{rank-same}
 use Rattle.gradings.specs.declared.Logic.{Logic}
-use Rattle.grades.specs.Rows.{rowAt}
+use Rattle.network.specs.Rows.{rowAt}
 use Rattle.elimination.specs.Marks.{marked?}
 use Rattle.elimination.proofs.Marks.{rank-unmarked}
 use Rattle.network.specs.Network.{between}

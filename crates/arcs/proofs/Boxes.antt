@@ -23,13 +23,13 @@ use Rattle.arcs.specs.Boxes.{Within, boundAt, Asks, BoxOf, Narrowed}
 
 -- ---- what one constraint asks
 
--- the grades of term t up to x, or from x on
+-- the grades in column t up to x, or from x on
 module _ (lg : Logic) (m t x : ℕ) (in-t : t < m) (P : List ℕ → Type 0) where
-  asks-to : ((v : List ℕ) → OnChain lg m v → (entry v t ≤ x) ↔ P v) → Asks lg m P (record { term = t; low = 0; high = x })
-  asks-to f = record { term-lt = in-t; exact = λ v on. (λ w. f v on .0 (w .1), λ p. (omega arith, f v on .1 p)) }
+  asks-to : ((v : List ℕ) → OnChain lg m v → (entry v t ≤ x) ↔ P v) → Asks lg m P (record { column = t; low = 0; high = x })
+  asks-to f = record { column-lt = in-t; exact = λ v on. (λ w. f v on .0 (w .1), λ p. (omega arith, f v on .1 p)) }
 
-  asks-from : ((v : List ℕ) → OnChain lg m v → (x ≤ entry v t) ↔ P v) → Asks lg m P (record { term = t; low = x; high = lg .steps })
-  asks-from f = record { term-lt = in-t; exact = λ v on. (λ w. f v on .0 (w .0), λ p. (f v on .1 p, on t in-t)) }
+  asks-from : ((v : List ℕ) → OnChain lg m v → (x ≤ entry v t) ↔ P v) → Asks lg m P (record { column = t; low = x; high = lg .steps })
+  asks-from f = record { column-lt = in-t; exact = λ v on. (λ w. f v on .0 (w .0), λ p. (f v on .1 p, on t in-t)) }
 
 module _ (lg : Logic) (m : ℕ) (k : Constraint) (right : Right lg m k) where
   -- its kind's direction
@@ -44,18 +44,18 @@ module _ (lg : Logic) (m : ℕ) (k : Constraint) (right : Right lg m k) where
     permitted : (v : List ℕ) → OnChain lg m v → WithinOf (quantifierOf (k .kind)) (entry v (k .child)) x ↔ Met lg k a v
     permitted v on = edge (entry v (k .child)) (on (k .child) (right .child-lt))
 
-    pub target-some : k .kind ≡ 4 → Asks lg m (Met lg k a) (record { term = k .child; low = 0; high = x })
+    pub target-some : k .kind ≡ 4 → Asks lg m (Met lg k a) (record { column = k .child; low = 0; high = x })
     target-some e = asks-to lg m (k .child) x (right .child-lt) (Met lg k a) (λ v on. Iff·trans (some-way e (entry v (k .child)) x) (permitted v on))
 
-    pub target-all : ¬ (k .kind ≡ 4) → Asks lg m (Met lg k a) (record { term = k .child; low = x; high = lg .steps })
+    pub target-all : ¬ (k .kind ≡ 4) → Asks lg m (Met lg k a) (record { column = k .child; low = x; high = lg .steps })
     target-all n = asks-from lg m (k .child) x (right .child-lt) (Met lg k a) (λ v on. Iff·trans (all-way n (entry v (k .child)) x) (permitted v on))
 
-  -- of the source's row, where the target has the row b: by what the term takes
+  -- of the source's row, where the target has the row b: by what the slot takes
   module _ (b : List ℕ) (x : ℕ) (taken : x ≡ through (connectivesOf lg) (quantifierOf (k .kind)) (k .level) (entry b (k .child))) where
-    pub source-some : k .kind ≡ 4 → Asks lg m (λ v. Met lg k v b) (record { term = k .own; low = x; high = lg .steps })
+    pub source-some : k .kind ≡ 4 → Asks lg m (λ v. Met lg k v b) (record { column = k .own; low = x; high = lg .steps })
     source-some e = asks-from lg m (k .own) x (right .own-lt) (λ v. Met lg k v b) (λ v on. rw (← taken) (some-way e x (entry v (k .own))))
 
-    pub source-all : ¬ (k .kind ≡ 4) → Asks lg m (λ v. Met lg k v b) (record { term = k .own; low = 0; high = x })
+    pub source-all : ¬ (k .kind ≡ 4) → Asks lg m (λ v. Met lg k v b) (record { column = k .own; low = 0; high = x })
     source-all n = asks-to lg m (k .own) x (right .own-lt) (λ v. Met lg k v b) (λ v on. rw (← taken) (all-way n x (entry v (k .own))))
 
 -- ---- lists of bounds
@@ -73,7 +73,7 @@ module _ (lg : Logic) (m : ℕ) where
   narrowed-none P s k f = record {
     more = omega arith;
     kept = λ z l. refl;
-    terms = λ x l u. absurd (omega arith);
+    columns = λ x l u. absurd (omega arith);
     exact = λ v on. (λ _. f v on, λ _ x l u. absurd (omega arith));
   }
 
@@ -82,7 +82,7 @@ module _ (lg : Logic) (m : ℕ) where
   narrowed-map P Q old k new r f w = record {
     more = w .more;
     kept = w .kept;
-    terms = w .terms;
+    columns = w .columns;
     exact = λ v on. (λ h. f v on .0 (w .exact v on .0 h), λ q. w .exact v on .1 (f v on .1 q));
   }
 
@@ -91,9 +91,9 @@ module _ (lg : Logic) (m : ℕ) where
   narrowed-then P Q a k b r c t w u = record {
     more = omega (arith, w .more, u .more);
     kept = λ z l. u .kept z (omega (arith, w .more)) ∙ w .kept z l;
-    terms = λ x l h. dite (decLt x r)
-        (λ z. subst (λ (q : Bound). q .term < m) (sym (same x z)) (w .terms x l z))
-        (λ z. u .terms x (omega arith) h);
+    columns = λ x l h. dite (decLt x r)
+        (λ z. subst (λ (q : Bound). q .column < m) (sym (same x z)) (w .columns x l z))
+        (λ z. u .columns x (omega arith) h);
     exact = λ v on. (
       λ h. (
         w .exact v on .0 (λ x l z. subst (λ (q : Bound). Within q v) (same x z) (h x l (omega (arith, u .more)))),
@@ -122,11 +122,11 @@ module _ (lg : Logic) (m : ℕ) where
 
 -- one bound
 abbrev pub putBound : (s : List ℕ) (k : ℕ) → Bound → List ℕ
-putBound s k b = set (set (set s (3 * k) (b .term)) (3 * k + 1) (b .low)) (3 * k + 2) (b .high)
+putBound s k b = set (set (set s (3 * k) (b .column)) (3 * k + 1) (b .low)) (3 * k + 2) (b .high)
 
 module _ (s : List ℕ) (k : ℕ) (b : Bound) where
   abbrev s1 : List ℕ
-  s1 = set s (3 * k) (b .term)
+  s1 = set s (3 * k) (b .column)
 
   abbrev s2 : List ℕ
   s2 = set s1 (3 * k + 1) (b .low)
@@ -137,25 +137,25 @@ module _ (s : List ℕ) (k : ℕ) (b : Bound) where
   put-kept : (z : ℕ) → z < 3 * k → getD (putBound s k b) z 0 ≡ getD s z 0
   put-kept z l =
       getD-set-other s2 (3 * k + 2) z (b .high) 0 (omega arith) ∙ getD-set-other s1 (3 * k + 1) z (b .low) 0 (omega arith)
-      ∙ getD-set-other s (3 * k) z (b .term) 0 (omega arith)
+      ∙ getD-set-other s (3 * k) z (b .column) 0 (omega arith)
 
   put-at : 3 * k + 3 ≤ length s → boundAt (putBound s k b) k ≡ b
   put-at fits =
-      let l1 = length-set s (3 * k) (b .term) in
+      let l1 = length-set s (3 * k) (b .column) in
       let l2 = length-set s1 (3 * k + 1) (b .low) in
-      let b0 : getD (putBound s k b) (3 * k) 0 ≡ b .term =
+      let b0 : getD (putBound s k b) (3 * k) 0 ≡ b .column =
       getD-set-other s2 (3 * k + 2) (3 * k) (b .high) 0 (omega arith) ∙ getD-set-other s1 (3 * k + 1) (3 * k) (b .low) 0 (omega arith)
-      ∙ getD-set-same s (3 * k) (b .term) 0 (omega arith) in
+      ∙ getD-set-same s (3 * k) (b .column) 0 (omega arith) in
       let b1 : getD (putBound s k b) (3 * k + 1) 0 ≡ b .low =
       getD-set-other s2 (3 * k + 2) (3 * k + 1) (b .high) 0 (omega arith) ∙ getD-set-same s1 (3 * k + 1) (b .low) 0 (omega arith) in
       let b2 : getD (putBound s k b) (3 * k + 2) 0 ≡ b .high = getD-set-same s2 (3 * k + 2) (b .high) 0 (omega arith) in
       rw (b0, b1, b2)
 
-  pub narrowed-one : (lg : Logic) (m : ℕ) → b .term < m → 3 * k + 3 ≤ length s → Narrowed lg m (Within b) s k (putBound s k b) (k + 1)
+  pub narrowed-one : (lg : Logic) (m : ℕ) → b .column < m → 3 * k + 3 ≤ length s → Narrowed lg m (Within b) s k (putBound s k b) (k + 1)
   narrowed-one lg m in-b fits = record {
     more = omega arith;
     kept = put-kept;
-    terms = λ x l u. let e : x ≡ k = omega arith in subst (λ (q : Bound). q .term < m) (sym (here x e)) in-b;
+    columns = λ x l u. let e : x ≡ k = omega arith in subst (λ (q : Bound). q .column < m) (sym (here x e)) in-b;
     exact = λ v on. (
       λ h. subst (λ (q : Bound). Within q v) (put-at fits) (h k (omega arith) (omega arith)),
       λ p x l u. let e : x ≡ k = omega arith in subst (λ (q : Bound). Within q v) (sym (here x e)) p,
@@ -166,8 +166,8 @@ module _ (s : List ℕ) (k : ℕ) (b : Bound) where
       here x e = subst (λ (y : ℕ). boundAt (putBound s k b) y ≡ b) (sym e) (put-at fits)
 
 -- one that leaves nothing of the chain out
-pub narrowed-all : (lg : Logic) (m : ℕ) (s : List ℕ) (k : ℕ) (b : Bound) → b .term < m → b .low ≡ 0 → lg .steps ≤ b .high → Narrowed lg m (Within b) s k s k
-narrowed-all lg m s k b in-b low high = narrowed-none lg m (Within b) s k (λ v on. (omega arith, omega (arith, on (b .term) in-b)))
+pub narrowed-all : (lg : Logic) (m : ℕ) (s : List ℕ) (k : ℕ) (b : Bound) → b .column < m → b .low ≡ 0 → lg .steps ≤ b .high → Narrowed lg m (Within b) s k s k
+narrowed-all lg m s k b in-b low high = narrowed-none lg m (Within b) s k (λ v on. (omega arith, omega (arith, on (b .column) in-b)))
 
 -- ---- the part in use is a box
 
@@ -180,7 +180,7 @@ module _ (lg : Logic) (m : ℕ) (P : List ℕ → Type 0) (old new : List ℕ) (
 
   pub box-of : BoxOf lg m P (take (3 * r) new)
   box-of = record {
-    terms = λ x l. let h : x < r = omega (arith, box-long) in subst (λ (q : Bound). q .term < m) (sym (box-at x h)) (w .terms x (omega arith) h);
+    columns = λ x l. let h : x < r = omega (arith, box-long) in subst (λ (q : Bound). q .column < m) (sym (box-at x h)) (w .columns x (omega arith) h);
     exact = λ v on. (
       λ i. w .exact v on .0 (λ x _ h. subst (λ (q : Bound). Within q v) (box-at x h) (i x (omega (arith, box-long)))),
       λ p x l. let h : x < r = omega (arith, box-long) in subst (λ (q : Bound). Within q v) (sym (box-at x h)) (w .exact v on .1 p x (omega arith) h),

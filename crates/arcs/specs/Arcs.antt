@@ -8,7 +8,7 @@ use Prim.Native.Nat.{ℕ, _+_, _*_, _≤_, _<_}
 use lib.ListN.{length, getD}
 use Rattle.chain.specs.Search.{rank}
 use Rattle.gradings.specs.declared.Logic.{Logic}
-use Rattle.grades.specs.Rows.{rowAt}
+use Rattle.network.specs.Rows.{rowAt}
 use Rattle.elimination.specs.Marks.{marked?}
 use Rattle.network.specs.Network.{between}
 use Rattle.domains.specs.Tables.{Allowed}

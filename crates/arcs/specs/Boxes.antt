@@ -1,4 +1,4 @@
--- Boxes: what constraints ask of the row of one individual where the row of the other is known, as bounds on the grades of terms.
+-- Boxes: what constraints ask of the row of one individual where the row of the other is known, as bounds on the grades in its columns.
 -- Assumes nothing.
 use mathlib.Core.Path.{_≡_}
 use mathlib.Core.Logic.{_↔_}
@@ -11,35 +11,35 @@ use Rattle.arcs.specs.declared.Bound.{Bound}
 
 -- the row v lies within a bound
 abbrev pub Within : Bound → (v : List ℕ) → Type 0
-Within b v = (b .low ≤ getD v (b .term) 0) × (getD v (b .term) 0 ≤ b .high)
+Within b v = (b .low ≤ getD v (b .column) 0) × (getD v (b .column) 0 ≤ b .high)
 
--- three bytes each: term, lowest and highest grade
+-- three bytes each: column, lowest and highest grade
 module _ (s : List ℕ) where
   abbrev pub boundCount : ℕ
   boundCount = length s / 3
 
   abbrev pub boundAt : ℕ → Bound
-  boundAt x = record { term = getD s (3 * x) 0; low = getD s (3 * x + 1) 0; high = getD s (3 * x + 2) 0 }
+  boundAt x = record { column = getD s (3 * x) 0; low = getD s (3 * x + 1) 0; high = getD s (3 * x + 2) 0 }
 
   -- the row lies in the box
   abbrev pub Inside : (v : List ℕ) → Type 0
   Inside v = (x : ℕ) → x < boundCount → Within (boundAt x) v
 
--- ---- by a logic, of rows over m terms
+-- ---- by a logic, of rows over m columns
 
 -- the bound asks of a row on the chain what P says
 pub record Asks (l : Logic) (m : ℕ) (P : List ℕ → Type 0) (b : Bound) : Type 0 where
-  pub term-lt : b .term < m
+  pub column-lt : b .column < m
   pub exact : (v : List ℕ) → OnChain l m v → Within b v ↔ P v
 
 -- the box does
 pub record BoxOf (l : Logic) (m : ℕ) (P : List ℕ → Type 0) (box : List ℕ) : Type 0 where
-  pub terms : (x : ℕ) → x < boundCount box → boundAt box x .term < m
+  pub columns : (x : ℕ) → x < boundCount box → boundAt box x .column < m
   pub exact : (v : List ℕ) → OnChain l m v → Inside box v ↔ P v
 
 -- on the way: to the first k bounds of `old`, `new` adds those up to r, and these ask what P says
 pub record Narrowed (l : Logic) (m : ℕ) (P : List ℕ → Type 0) (old : List ℕ) (k : ℕ) (new : List ℕ) (r : ℕ) : Type 0 where
   pub more : k ≤ r
   pub kept : (z : ℕ) → z < 3 * k → getD new z 0 ≡ getD old z 0
-  pub terms : (x : ℕ) → k ≤ x → x < r → boundAt new x .term < m
+  pub columns : (x : ℕ) → k ≤ x → x < r → boundAt new x .column < m
   pub exact : (v : List ℕ) → OnChain l m v → ((x : ℕ) → k ≤ x → x < r → Within (boundAt new x) v) ↔ P v

@@ -3,7 +3,7 @@ ghost use mathlib.Core.Path.{_≡_};
 ghost use Prim.Native.Nat.{ℕ, _+_, _*_, _<_, _≤_};
 ghost use lib.ListN.{length};
 ghost use Rattle.chain.specs.Decisions.{Tells};
-ghost use Rattle.grades.specs.Rows.{rowAt};
+ghost use Rattle.network.specs.Rows.{rowAt};
 ghost use Rattle.network.specs.Constraints.{constraintCount, Met, AllMet, Right, AllRight, OnChain};
 ghost use Rattle.domains.specs.Gaps.{GapsFrom, Gaps};
 ghost use Rattle.domains.specs.Consistent.{FitsBy, Problem, Graded};
@@ -11,18 +11,18 @@ ghost use Rattle.arcs.specs.Boxes.{Inside, Within, boundCount, boundAt, 
 ghost use Rattle.arcs.specs.Arcs.{Sought, Tried, SupportedBy, SupportedTo, ArcConsistent, Pruned, Revised, RevisedBy};
 use domains::leap;
 use domains::note_gaps;
-use grades::row_at;
 use gradings::Logic;
 use gradings::bound;
 use gradings::through;
 use network::Constraint;
 use network::between;
 use network::constraint_at;
+use network::row_at;
 use sections::wide;
 
-// The grades that a term may have: from `low` to `high`.
+// The grades that a row may have in a column: from `low` to `high`.
 pub struct Bound {
-    pub term: u8,
+    pub column: u8,
     pub low: u8,
     pub high: u8,
 }
@@ -31,51 +31,51 @@ pub struct Bound {
 
 // What a constraint asks of the target's row where the source has this one: that the child is not above, or not below, the edge of those that
 // permit the link.
-fn bound_target(logic: Logic, k: Constraint, terms: usize, source: &[u8]) -> Bound
-    requires { ⌜ Right logic terms k × (terms ≤ length (now source)) × OnChain logic terms (now source) ⌝ }
-    ensures { λ r. ⌜ Asks logic terms (Met logic k (now (source .entry))) r ⌝ }
+fn bound_target(logic: Logic, k: Constraint, columns: usize, source: &[u8]) -> Bound
+    requires { ⌜ Right logic columns k × (columns ≤ length (now source)) × OnChain logic columns (now source) ⌝ }
+    ensures { λ r. ⌜ Asks logic columns (Met logic k (now (source .entry))) r ⌝ }
 {
     let own = source[wide(k.own)];
     let edge = bound(logic, k.kind, k.level, own);
     if k.kind == 4 {
         return Bound {
-            term: k.child,
+            column: k.child,
             low: 0,
             high: edge,
         };
     }
     Bound {
-        term: k.child,
+        column: k.child,
         low: edge,
         high: logic.steps,
     }
 }
 
 // What it asks of the source's row where the target has this one: that the own grade is not below, or not above, what it takes from the child.
-fn bound_source(logic: Logic, k: Constraint, terms: usize, target: &[u8]) -> Bound
-    requires { ⌜ Right logic terms k × (terms ≤ length (now target)) ⌝ }
-    ensures { λ r. ⌜ Asks logic terms (λ v. Met logic k v (now (target .entry))) r ⌝ }
+fn bound_source(logic: Logic, k: Constraint, columns: usize, target: &[u8]) -> Bound
+    requires { ⌜ Right logic columns k × (columns ≤ length (now target)) ⌝ }
+    ensures { λ r. ⌜ Asks logic columns (λ v. Met logic k v (now (target .entry))) r ⌝ }
 {
     let child = target[wide(k.child)];
     let taken = through(logic, k.kind, k.level, child);
     if k.kind == 4 {
         return Bound {
-            term: k.own,
+            column: k.own,
             low: taken,
             high: logic.steps,
         };
     }
     Bound {
-        term: k.own,
+        column: k.own,
         low: 0,
         high: taken,
     }
 }
 
 // Adds a bound as number `m`, if it leaves anything of the chain out. The number of bounds.
-fn put_bound(logic: Logic, terms: usize, b: Bound, bounds: &mut [u8], m: usize) -> usize
-    requires { ⌜ (b .term < terms) × (3 * m + 3 ≤ length (now bounds)) ⌝ }
-    ensures { λ r. ⌜ Narrowed logic terms (Within b) (now (bounds .entry)) m (now (bounds .exit)) r ⌝ }
+fn put_bound(logic: Logic, columns: usize, b: Bound, bounds: &mut [u8], m: usize) -> usize
+    requires { ⌜ (b .column < columns) × (3 * m + 3 ≤ length (now bounds)) ⌝ }
+    ensures { λ r. ⌜ Narrowed logic columns (Within b) (now (bounds .entry)) m (now (bounds .exit)) r ⌝ }
     ensures { λ r. ⌜ r ≤ m + 1 ⌝ }
 {
     if b.low == 0 {
@@ -83,7 +83,7 @@ fn put_bound(logic: Logic, terms: usize, b: Bound, bounds: &mut [u8], m: usize) 
             return m;
         }
     }
-    bounds[3 * m] = b.term;
+    bounds[3 * m] = b.column;
     bounds[3 * m + 1] = b.low;
     bounds[3 * m + 2] = b.high;
     m + 1
@@ -93,22 +93,22 @@ fn put_bound(logic: Logic, terms: usize, b: Bound, bounds: &mut [u8], m: usize) 
 fn bound_targets(
     logic: Logic,
     s: &[u8],
-    terms: usize,
+    columns: usize,
     source: &[u8],
     bounds: &mut [u8],
     start: usize,
 ) -> usize
-    requires { ⌜ AllRight logic terms (now s) × (terms ≤ length (now source)) × OnChain logic terms (now source)
+    requires { ⌜ AllRight logic columns (now s) × (columns ≤ length (now source)) × OnChain logic columns (now source)
         × (3 * (start + constraintCount (now s)) ≤ length (now bounds)) ⌝ }
-    ensures { λ r. ⌜ Narrowed logic terms (AllMet logic (now (s .entry)) (now (source .entry))) (now (bounds .entry)) start (now (bounds .exit)) r ⌝ }
+    ensures { λ r. ⌜ Narrowed logic columns (AllMet logic (now (s .entry)) (now (source .entry))) (now (bounds .entry)) start (now (bounds .exit)) r ⌝ }
     ensures { λ r. ⌜ r ≤ start + constraintCount (now (s .entry)) ⌝ }
 {
     let count = s.len() / 4;
     let mut m = start;
     let mut y = 0;
     while y < count {
-        let b = bound_target(logic, constraint_at(s, y), terms, source);
-        m = put_bound(logic, terms, b, bounds, m);
+        let b = bound_target(logic, constraint_at(s, y), columns, source);
+        m = put_bound(logic, columns, b, bounds, m);
         y += 1;
     }
     m
@@ -118,21 +118,21 @@ fn bound_targets(
 fn bound_sources(
     logic: Logic,
     s: &[u8],
-    terms: usize,
+    columns: usize,
     target: &[u8],
     bounds: &mut [u8],
     start: usize,
 ) -> usize
-    requires { ⌜ AllRight logic terms (now s) × (terms ≤ length (now target)) × (3 * (start + constraintCount (now s)) ≤ length (now bounds)) ⌝ }
-    ensures { λ r. ⌜ Narrowed logic terms (λ v. AllMet logic (now (s .entry)) v (now (target .entry))) (now (bounds .entry)) start (now (bounds .exit)) r ⌝ }
+    requires { ⌜ AllRight logic columns (now s) × (columns ≤ length (now target)) × (3 * (start + constraintCount (now s)) ≤ length (now bounds)) ⌝ }
+    ensures { λ r. ⌜ Narrowed logic columns (λ v. AllMet logic (now (s .entry)) v (now (target .entry))) (now (bounds .entry)) start (now (bounds .exit)) r ⌝ }
     ensures { λ r. ⌜ r ≤ start + constraintCount (now (s .entry)) ⌝ }
 {
     let count = s.len() / 4;
     let mut m = start;
     let mut y = 0;
     while y < count {
-        let b = bound_source(logic, constraint_at(s, y), terms, target);
-        m = put_bound(logic, terms, b, bounds, m);
+        let b = bound_source(logic, constraint_at(s, y), columns, target);
+        m = put_bound(logic, columns, b, bounds, m);
         y += 1;
     }
     m
@@ -143,22 +143,22 @@ fn make_box(
     logic: Logic,
     forth: &[u8],
     back: &[u8],
-    terms: usize,
+    columns: usize,
     row: &[u8],
     bounds: &mut [u8],
 ) -> usize
-    requires { ⌜ AllRight logic terms (now forth) × AllRight logic terms (now back) × (terms ≤ length (now row)) × OnChain logic terms (now row) ⌝ }
+    requires { ⌜ AllRight logic columns (now forth) × AllRight logic columns (now back) × (columns ≤ length (now row)) × OnChain logic columns (now row) ⌝ }
     requires { ⌜ (constraintCount (now forth) ≤ 64) × (constraintCount (now back) ≤ 64) × (384 ≤ length (now bounds)) ⌝ }
-    ensures { λ r. ⌜ Narrowed logic terms (FitsBy logic (now (forth .entry)) (now (back .entry)) (now (row .entry))) (now (bounds .entry)) 0 (now (bounds .exit)) r ⌝ }
+    ensures { λ r. ⌜ Narrowed logic columns (FitsBy logic (now (forth .entry)) (now (back .entry)) (now (row .entry))) (now (bounds .entry)) 0 (now (bounds .exit)) r ⌝ }
     ensures { λ r. ⌜ r ≤ 128 ⌝ }
 {
-    let m = bound_targets(logic, forth, terms, row, bounds, 0);
-    bound_sources(logic, back, terms, row, bounds, m)
+    let m = bound_targets(logic, forth, columns, row, bounds, 0);
+    bound_sources(logic, back, columns, row, bounds, m)
 }
 
 // Does the row lie in the box? The first bound that it passes decides.
 fn inside(bounds: &[u8], row: &[u8]) -> bool
-    requires { ⌜ ((x : ℕ) → x < boundCount (now bounds) → boundAt (now bounds) x .term < length (now row)) ⌝ }
+    requires { ⌜ ((x : ℕ) → x < boundCount (now bounds) → boundAt (now bounds) x .column < length (now row)) ⌝ }
     ensures { λ r. ⌜ Tells r (Inside (now (bounds .entry)) (now (row .entry))) ⌝ }
 {
     let count = bounds.len() / 3;
@@ -181,8 +181,8 @@ fn inside(bounds: &[u8], row: &[u8]) -> bool
 // The first candidate from `start` on and below `to` that individual `i` may have and whose row lies in the box; or a number that is not below
 // `to`.
 fn seek(bounds: &[u8], table: &[u8], rows: &[u8], i: usize, start: usize, to: usize) -> usize
-    requires { ⌜ (i < 8) × (to ≤ 16384) × (131072 ≤ length (now table)) × (1048576 ≤ length (now rows)) × GapsFrom (now table) i 0 to ⌝ }
-    requires { ⌜ ((x : ℕ) → x < boundCount (now bounds) → boundAt (now bounds) x .term < 64) ⌝ }
+    requires { ⌜ (i < 8) × (to ≤ 16384) × (131072 ≤ length (now table)) × (524288 ≤ length (now rows)) × GapsFrom (now table) i 0 to ⌝ }
+    requires { ⌜ ((x : ℕ) → x < boundCount (now bounds) → boundAt (now bounds) x .column < 32) ⌝ }
     ensures { λ r. ⌜ Sought (now (bounds .entry)) (now (table .entry)) (now (rows .entry)) i start to r ⌝ }
 {
     let mut d = start;
@@ -209,8 +209,8 @@ fn seek_around(
     hint: usize,
     count: usize,
 ) -> usize
-    requires { ⌜ (i < 8) × (hint ≤ count) × (count ≤ 16384) × (131072 ≤ length (now table)) × (1048576 ≤ length (now rows)) × GapsFrom (now table) i 0 count ⌝ }
-    requires { ⌜ ((x : ℕ) → x < boundCount (now bounds) → boundAt (now bounds) x .term < 64) ⌝ }
+    requires { ⌜ (i < 8) × (hint ≤ count) × (count ≤ 16384) × (131072 ≤ length (now table)) × (524288 ≤ length (now rows)) × GapsFrom (now table) i 0 count ⌝ }
+    requires { ⌜ ((x : ℕ) → x < boundCount (now bounds) → boundAt (now bounds) x .column < 32) ⌝ }
     ensures { λ r. ⌜ Sought (now (bounds .entry)) (now (table .entry)) (now (rows .entry)) i 0 count r ⌝ }
 {
     let d = seek(bounds, table, rows, i, hint, count);
@@ -230,7 +230,7 @@ fn support(
     logic: Logic,
     forth: &[u8],
     back: &[u8],
-    terms: usize,
+    columns: usize,
     count: usize,
     individuals: usize,
     table: &[u8],
@@ -240,12 +240,12 @@ fn support(
     c: usize,
     hint: usize,
 ) -> usize
-    requires { ⌜ AllRight logic terms (now forth) × AllRight logic terms (now back) × (constraintCount (now forth) ≤ 64) × (constraintCount (now back) ≤ 64) × (terms ≤ 64) ⌝ }
-    requires { ⌜ (i < individuals) × (individuals ≤ 8) × (c < count) × (hint ≤ count) × (count ≤ 16384) × OnChain logic terms (rowAt (now rows) c) ⌝ }
-    requires { ⌜ (131072 ≤ length (now table)) × (1048576 ≤ length (now rows)) × (384 ≤ length (now bounds)) × Gaps (now table) individuals count × Graded logic terms count individuals (now rows) (now table) ⌝ }
+    requires { ⌜ AllRight logic columns (now forth) × AllRight logic columns (now back) × (constraintCount (now forth) ≤ 64) × (constraintCount (now back) ≤ 64) × (columns ≤ 32) ⌝ }
+    requires { ⌜ (i < individuals) × (individuals ≤ 8) × (c < count) × (hint ≤ count) × (count ≤ 16384) × OnChain logic columns (rowAt (now rows) c) ⌝ }
+    requires { ⌜ (131072 ≤ length (now table)) × (524288 ≤ length (now rows)) × (384 ≤ length (now bounds)) × Gaps (now table) individuals count × Graded logic columns count individuals (now rows) (now table) ⌝ }
     ensures { λ r. ⌜ Tried logic (now (forth .entry)) (now (back .entry)) count (now (rows .entry)) (now (table .entry)) i c r ⌝ }
 {
-    let m = make_box(logic, forth, back, terms, row_at(rows, c), bounds);
+    let m = make_box(logic, forth, back, columns, row_at(rows, c), bounds);
     seek_around(&bounds[..3 * m], table, rows, i, hint, count)
 }
 
@@ -257,7 +257,7 @@ fn revise(
     logic: Logic,
     forth: &[u8],
     back: &[u8],
-    terms: usize,
+    columns: usize,
     count: usize,
     individuals: usize,
     rows: &[u8],
@@ -266,9 +266,9 @@ fn revise(
     j: usize,
     i: usize,
 ) -> bool
-    requires { ⌜ AllRight logic terms (now forth) × AllRight logic terms (now back) × (constraintCount (now forth) ≤ 64) × (constraintCount (now back) ≤ 64) × (terms ≤ 64) ⌝ }
+    requires { ⌜ AllRight logic columns (now forth) × AllRight logic columns (now back) × (constraintCount (now forth) ≤ 64) × (constraintCount (now back) ≤ 64) × (columns ≤ 32) ⌝ }
     requires { ⌜ (j < individuals) × (i < individuals) × (individuals ≤ 8) × (¬ (i ≡ j)) × (count ≤ 16384) ⌝ }
-    requires { ⌜ (131072 ≤ length (now table)) × (1048576 ≤ length (now rows)) × (384 ≤ length (now bounds)) × Gaps (now table) individuals count × Graded logic terms count individuals (now rows) (now table) ⌝ }
+    requires { ⌜ (131072 ≤ length (now table)) × (524288 ≤ length (now rows)) × (384 ≤ length (now bounds)) × Gaps (now table) individuals count × Graded logic columns count individuals (now rows) (now table) ⌝ }
     ensures { λ r. ⌜ RevisedBy logic (now (forth .entry)) (now (back .entry)) count (now (rows .entry)) j i count r (now (table .entry)) (now (table .exit)) ⌝ }
     ensures { λ _. ⌜ Gaps (now (table .exit)) individuals count ⌝ }
 {
@@ -287,7 +287,7 @@ fn revise(
             logic,
             forth,
             back,
-            terms,
+            columns,
             count,
             individuals,
             table,
@@ -312,7 +312,7 @@ fn revise_by(
     logic: Logic,
     net: &[u8],
     ends: &[u16],
-    terms: usize,
+    columns: usize,
     count: usize,
     individuals: usize,
     rows: &[u8],
@@ -321,9 +321,9 @@ fn revise_by(
     j: usize,
     i: usize,
 ) -> bool
-    requires { ⌜ Problem logic terms (now net) (now ends) count individuals (now rows) ⌝ }
+    requires { ⌜ Problem logic columns (now net) (now ends) count individuals (now rows) ⌝ }
     requires { ⌜ (j < individuals) × (i < individuals) × (¬ (i ≡ j)) × (131072 ≤ length (now table)) × (384 ≤ length (now bounds)) ⌝ }
-    requires { ⌜ Gaps (now table) individuals count × Graded logic terms count individuals (now rows) (now table) ⌝ }
+    requires { ⌜ Gaps (now table) individuals count × Graded logic columns count individuals (now rows) (now table) ⌝ }
     ensures { λ r. ⌜ Revised logic (now (net .entry)) (now (ends .entry)) count (now (rows .entry)) individuals
         (SupportedBy logic (now (net .entry)) (now (ends .entry)) count (now (rows .entry)) j i) r (now (table .entry)) (now (table .exit)) ⌝ }
     ensures { λ _. ⌜ Gaps (now (table .exit)) individuals count ⌝ }
@@ -339,7 +339,7 @@ fn revise_by(
         logic,
         forth,
         back,
-        terms,
+        columns,
         count,
         individuals,
         rows,
@@ -359,7 +359,7 @@ fn revise_all(
     logic: Logic,
     net: &[u8],
     ends: &[u16],
-    terms: usize,
+    columns: usize,
     count: usize,
     individuals: usize,
     rows: &[u8],
@@ -367,9 +367,9 @@ fn revise_all(
     bounds: &mut [u8],
     j: usize,
 ) -> bool
-    requires { ⌜ Problem logic terms (now net) (now ends) count individuals (now rows) ⌝ }
+    requires { ⌜ Problem logic columns (now net) (now ends) count individuals (now rows) ⌝ }
     requires { ⌜ (j < individuals) × (131072 ≤ length (now table)) × (384 ≤ length (now bounds)) ⌝ }
-    requires { ⌜ Gaps (now table) individuals count × Graded logic terms count individuals (now rows) (now table) ⌝ }
+    requires { ⌜ Gaps (now table) individuals count × Graded logic columns count individuals (now rows) (now table) ⌝ }
     ensures { λ r. ⌜ Revised logic (now (net .entry)) (now (ends .entry)) count (now (rows .entry)) individuals
         (SupportedTo logic (now (net .entry)) (now (ends .entry)) count (now (rows .entry)) j individuals) r (now (table .entry)) (now (table .exit)) ⌝ }
     ensures { λ _. ⌜ Gaps (now (table .exit)) individuals count ⌝ }
@@ -386,7 +386,7 @@ fn revise_all(
             logic,
             net,
             ends,
-            terms,
+            columns,
             count,
             individuals,
             rows,
@@ -406,16 +406,16 @@ fn pass(
     logic: Logic,
     net: &[u8],
     ends: &[u16],
-    terms: usize,
+    columns: usize,
     count: usize,
     individuals: usize,
     rows: &[u8],
     table: &mut [u8],
     bounds: &mut [u8],
 ) -> bool
-    requires { ⌜ Problem logic terms (now net) (now ends) count individuals (now rows) ⌝ }
+    requires { ⌜ Problem logic columns (now net) (now ends) count individuals (now rows) ⌝ }
     requires { ⌜ (131072 ≤ length (now table)) × (384 ≤ length (now bounds)) ⌝ }
-    requires { ⌜ Gaps (now table) individuals count × Graded logic terms count individuals (now rows) (now table) ⌝ }
+    requires { ⌜ Gaps (now table) individuals count × Graded logic columns count individuals (now rows) (now table) ⌝ }
     ensures { λ r. ⌜ Revised logic (now (net .entry)) (now (ends .entry)) count (now (rows .entry)) individuals
         (ArcConsistent logic (now (net .entry)) (now (ends .entry)) count (now (rows .entry)) individuals) r (now (table .entry)) (now (table .exit)) ⌝ }
     ensures { λ _. ⌜ Gaps (now (table .exit)) individuals count ⌝ }
@@ -427,7 +427,7 @@ fn pass(
             logic,
             net,
             ends,
-            terms,
+            columns,
             count,
             individuals,
             rows,
@@ -447,15 +447,15 @@ pub fn prune(
     logic: Logic,
     net: &[u8],
     ends: &[u16],
-    terms: usize,
+    columns: usize,
     count: usize,
     individuals: usize,
     rows: &[u8],
     table: &mut [u8],
 )
-    requires { ⌜ Problem logic terms (now net) (now ends) count individuals (now rows) ⌝ }
+    requires { ⌜ Problem logic columns (now net) (now ends) count individuals (now rows) ⌝ }
     requires { ⌜ 131072 ≤ length (now table) ⌝ }
-    requires { ⌜ Gaps (now table) individuals count × Graded logic terms count individuals (now rows) (now table) ⌝ }
+    requires { ⌜ Gaps (now table) individuals count × Graded logic columns count individuals (now rows) (now table) ⌝ }
     ensures { λ _. ⌜ Pruned logic (now (net .entry)) (now (ends .entry)) count (now (rows .entry)) individuals (now (table .entry)) (now (table .exit)) ⌝ }
     ensures { λ _. ⌜ ArcConsistent logic (now (net .entry)) (now (ends .entry)) count (now (rows .entry)) individuals (now (table .exit)) ⌝ }
     ensures { λ _. ⌜ Gaps (now (table .exit)) individuals count ⌝ }
@@ -466,7 +466,7 @@ pub fn prune(
             logic,
             net,
             ends,
-            terms,
+            columns,
             count,
             individuals,
             rows,

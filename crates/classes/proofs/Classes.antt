@@ -10,7 +10,7 @@ use native.Mathlib.Omega.{arith}
 use lib.ListN.{length, getD, set, take}
 use lib.Seq.{getD-set-same, getD-set-other, set-out}
 use Rattle.gradings.specs.declared.Logic.{Logic}
-use Rattle.grades.specs.Rows.{rowAt}
+use Rattle.network.specs.Rows.{rowAt}
 use Rattle.domains.specs.Tables.{Allowed}
 use Rattle.domains.specs.Consistent.{Fits, Consistent, Problem}
 use Rattle.classes.specs.Reads.{Read, Listed}
@@ -51,7 +51,7 @@ module _ (lg : Logic) (net ends : List ℕ) (count : ℕ) (rows : List ℕ) (n :
 
   -- one individual, by what is read of it
   pub thinned-at : (m : ℕ) → Problem lg m net ends count n rows → (j : ℕ) → j < n → (seen : List ℕ) → Read net ends j 8 seen
-      → (r : ℕ) (list : List ℕ) → Listed seen 64 r list → 64 ≤ length list → (old new : List ℕ) → ThinnedAt (take r list) rows j count old new
+      → (r : ℕ) (list : List ℕ) → Listed seen 32 r list → 32 ≤ length list → (old new : List ℕ) → ThinnedAt (take r list) rows j count old new
       → Thinned lg net ends count rows n old new
   thinned-at m p j in-j seen read r list listed long old new w = record { fewer = w .fewer; keeps = keeps }
     where

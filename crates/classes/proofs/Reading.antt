@@ -19,11 +19,11 @@ use Rattle.classes.specs.Classes.{Alike}
 
 -- ---- noting
 
--- the term that a constraint on terms below m reads
+-- the column that a constraint on columns below m reads
 pub read-lt : (lg : Logic) (m e : ℕ) (k : Constraint) → e ≤ 1 → Right lg m k → readAt e k < m
 read-lt lg m e k l r = dite (ℕ-discrete e 0) (λ z. rw z (r .own-lt)) (λ n. let z : e ≡ 1 = omega arith in rw z (r .child-lt))
 
--- a term more is read
+-- a column more is read
 pub more-set : (seen : List ℕ) (t : ℕ) → t < length seen → More seen (set seen t 1)
 more-set seen t h x e = dite (ℕ-discrete x t)
     (λ z. subst (λ (y : ℕ). getD (set seen t 1) y 0 ≡ 1) (sym z) (getD-set-same seen t 1 0 h))
@@ -61,20 +61,20 @@ module _ (net ends : List ℕ) (j i : ℕ) where
 
 module _ (seen : List ℕ) where
   pub listed-none : (list : List ℕ) → Listed seen 0 0 list
-  listed-none list = record { fits = omega arith; terms = λ x l. absurd (omega arith); each = λ t l. absurd (omega arith) }
+  listed-none list = record { fits = omega arith; columns = λ x l. absurd (omega arith); each = λ t l. absurd (omega arith) }
 
   module _ (t m : ℕ) (list : List ℕ) (w : Listed seen t m list) where
     pub listed-unread : ¬ (getD seen t 0 ≡ 1) → Listed seen (t + 1) m list
     listed-unread n = record {
       fits = omega (arith, w .fits);
-      terms = w .terms;
+      columns = w .columns;
       each = below-more _ t (w .each) (λ e. absurd (n e));
     }
 
-    pub listed-read : t < 64 → 64 ≤ length list → Listed seen (t + 1) (m + 1) (set list m t)
+    pub listed-read : t < 32 → 32 ≤ length list → Listed seen (t + 1) (m + 1) (set list m t)
     listed-read small long = record {
       fits = omega (arith, w .fits);
-      terms = below-more _ m (λ x l. rw (before x l) (w .terms x l)) (rw here small);
+      columns = below-more _ m (λ x l. rw (before x l) (w .columns x l)) (rw here small);
       each = below-more _ t
           (λ x l e. let u = w .each x l e in (u .0, omega (arith, u .1), before (u .0) (u .1) ∙ u .2))
           (λ _. (m, omega arith, here));
@@ -86,15 +86,15 @@ module _ (seen : List ℕ) where
         before : (x : ℕ) → x < m → getD (set list m t) x 0 ≡ getD list x 0
         before x l = getD-set-other list m x t 0 (omega arith)
 
-  module _ (m : ℕ) (list : List ℕ) (w : Listed seen 64 m list) (long : 64 ≤ length list) where
+  module _ (m : ℕ) (list : List ℕ) (w : Listed seen 32 m list) (long : 32 ≤ length list) where
     pub listed-size : length (take m list) ≡ m
     listed-size = length-take-le m list (omega (arith, w .fits))
 
-    pub listed-small : (x : ℕ) → x < length (take m list) → getD (take m list) x 0 < 64
-    listed-small x l = let h : x < m = omega (arith, listed-size) in rw (getD-take m list x 0 h) (w .terms x h)
+    pub listed-small : (x : ℕ) → x < length (take m list) → getD (take m list) x 0 < 32
+    listed-small x l = let h : x < m = omega (arith, listed-size) in rw (getD-take m list x 0 h) (w .columns x h)
 
     -- rows that are alike for the list have the same grade wherever one is read
-    pub listed-same : (a b : List ℕ) → Alike (take m list) a b → (t : ℕ) → t < 64 → getD seen t 0 ≡ 1 → getD a t 0 ≡ getD b t 0
+    pub listed-same : (a b : List ℕ) → Alike (take m list) a b → (t : ℕ) → t < 32 → getD seen t 0 ≡ 1 → getD a t 0 ≡ getD b t 0
     listed-same a b alike t l e =
         let u = w .each t l e in
         let z : getD (take m list) (u .0) 0 ≡ t = getD-take m list (u .0) 0 (u .1) ∙ u .2 in
@@ -114,7 +114,7 @@ module _ (lg : Logic) (s a b v : List ℕ) where
 
 -- both are compatible with the same row of another individual
 pub same-fits : (lg : Logic) (m : ℕ) (net ends : List ℕ) (count n : ℕ) (rows : List ℕ) → Problem lg m net ends count n rows
-    → (j i : ℕ) → j < 8 → i < 8 → ¬ (i ≡ j) → (seen : List ℕ) → Read net ends j 8 seen → (a b : List ℕ) → ((t : ℕ) → t < 64 → getD seen t 0 ≡ 1 → getD a t 0 ≡ getD b t 0)
+    → (j i : ℕ) → j < 8 → i < 8 → ¬ (i ≡ j) → (seen : List ℕ) → Read net ends j 8 seen → (a b : List ℕ) → ((t : ℕ) → t < 32 → getD seen t 0 ≡ 1 → getD a t 0 ≡ getD b t 0)
     → (v : List ℕ) → Fits lg net ends j i a v → Fits lg net ends j i b v
 same-fits lg m net ends count n rows p j i lj li apart seen read a b same v f = (
   met-source lg (between net ends j i) a b v

@@ -6,11 +6,11 @@ use mathlib.Core.List.{List}
 use Prim.Native.Nat.{ℕ, _+_, _-_, _≤_, _<_}
 use lib.ListN.{length, getD, set}
 use Rattle.gradings.specs.declared.Logic.{Logic}
-use Rattle.grades.specs.Rows.{rowAt}
+use Rattle.network.specs.Rows.{rowAt}
 use Rattle.domains.specs.Tables.{Allowed}
 use Rattle.domains.specs.Consistent.{Consistent}
 
--- two rows have the same grades for the terms of the list
+-- two rows have the same grades in the columns of the list
 abbrev pub Alike : (list a b : List ℕ) → Type 0
 Alike list a b = (x : ℕ) → x < length list → getD a (getD list x 0) 0 ≡ getD b (getD list x 0) 0
 

@@ -8,16 +8,16 @@ ghost use Rattle.network.specs.Network.{Wired};
 ghost use Rattle.domains.specs.Consistent.{Problem};
 ghost use Rattle.classes.specs.Reads.{readAt, ListRead, Read, More, Listed};
 ghost use Rattle.classes.specs.Classes.{Alike, Matched, ThinnedAt, Thinned};
-use grades::row_at;
 use gradings::Logic;
 use network::Constraint;
 use network::between;
 use network::constraint_at;
+use network::row_at;
 use sections::wide;
 
 // ---- which grades are read
 
-// The term that a constraint reads at the source of its link, end 0, or at the target.
+// The column that a constraint reads at the source of its link, end 0, or at the target.
 fn read_at(end: u8, k: Constraint) -> usize
     requires { ⌜ end ≤ 1 ⌝ }
     ensures { λ r. ⌜ r ≡ readAt end k ⌝ }
@@ -29,8 +29,8 @@ fn read_at(end: u8, k: Constraint) -> usize
 }
 
 // Notes what the constraints of a list read at this end.
-fn note_list(logic: Logic, s: &[u8], end: u8, terms: usize, seen: &mut [u8])
-    requires { ⌜ AllRight logic terms (now s) × (terms ≤ length (now seen)) × (end ≤ 1) ⌝ }
+fn note_list(logic: Logic, s: &[u8], end: u8, columns: usize, seen: &mut [u8])
+    requires { ⌜ AllRight logic columns (now s) × (columns ≤ length (now seen)) × (end ≤ 1) ⌝ }
     ensures { λ _. ⌜ More (now (seen .entry)) (now (seen .exit)) ⌝ }
     ensures { λ _. ⌜ ListRead (now (s .entry)) end (constraintCount (now (s .entry))) (now (seen .exit)) ⌝ }
 {
@@ -43,9 +43,9 @@ fn note_list(logic: Logic, s: &[u8], end: u8, terms: usize, seen: &mut [u8])
 }
 
 // Notes what those between individual `j` and the others read of `j`.
-fn note_all(logic: Logic, net: &[u8], ends: &[u16], j: usize, terms: usize, seen: &mut [u8])
-    requires { ⌜ Wired logic terms (now net) (now ends) ⌝ }
-    requires { ⌜ (j < 8) × (terms ≤ length (now seen)) ⌝ }
+fn note_all(logic: Logic, net: &[u8], ends: &[u16], j: usize, columns: usize, seen: &mut [u8])
+    requires { ⌜ Wired logic columns (now net) (now ends) ⌝ }
+    requires { ⌜ (j < 8) × (columns ≤ length (now seen)) ⌝ }
     ensures { λ _. ⌜ Read (now (net .entry)) (now (ends .entry)) j 8 (now (seen .exit)) ⌝ }
 {
     let mut next = 0;
@@ -55,14 +55,14 @@ fn note_all(logic: Logic, net: &[u8], ends: &[u16], j: usize, terms: usize, seen
         if i == j {
             continue;
         }
-        note_list(logic, between(net, ends, j, i), 0, terms, seen);
-        note_list(logic, between(net, ends, i, j), 1, terms, seen);
+        note_list(logic, between(net, ends, j, i), 0, columns, seen);
+        note_list(logic, between(net, ends, i, j), 1, columns, seen);
     }
 }
 
-// Adds term `t` to the list as entry `m` where its grade is read. The number of entries.
+// Adds column `t` to the list as entry `m` where it is read. The number of entries.
 fn put_read(seen: &[u8], t: usize, list: &mut [u8], m: usize) -> usize
-    requires { ⌜ (t < 64) × (64 ≤ length (now seen)) × (64 ≤ length (now list)) ⌝ }
+    requires { ⌜ (t < 32) × (32 ≤ length (now seen)) × (32 ≤ length (now list)) ⌝ }
     requires { ⌜ Listed (now seen) t m (now list) ⌝ }
     ensures { λ r. ⌜ Listed (now (seen .entry)) (t + 1) r (now (list .exit)) ⌝ }
 {
@@ -73,14 +73,14 @@ fn put_read(seen: &[u8], t: usize, list: &mut [u8], m: usize) -> usize
     m + 1
 }
 
-// Lists the terms whose grades are read. How many they are.
+// Lists the columns that are read. How many they are.
 fn list_read(seen: &[u8], list: &mut [u8]) -> usize
-    requires { ⌜ (64 ≤ length (now seen)) × (64 ≤ length (now list)) ⌝ }
-    ensures { λ r. ⌜ Listed (now (seen .entry)) 64 r (now (list .exit)) ⌝ }
+    requires { ⌜ (32 ≤ length (now seen)) × (32 ≤ length (now list)) ⌝ }
+    ensures { λ r. ⌜ Listed (now (seen .entry)) 32 r (now (list .exit)) ⌝ }
 {
     let mut m = 0;
     let mut t = 0;
-    while t < 64 {
+    while t < 32 {
         m = put_read(seen, t, list, m);
         t += 1;
     }
@@ -89,9 +89,9 @@ fn list_read(seen: &[u8], list: &mut [u8]) -> usize
 
 // ---- candidates that look alike
 
-// Have the two rows the same grades for the terms of the list?
+// Have the two rows the same grades in the columns of the list?
 fn alike(list: &[u8], first: &[u8], second: &[u8]) -> bool
-    requires { ⌜ (64 ≤ length (now first)) × (64 ≤ length (now second)) × ((x : ℕ) → x < length (now list) → getD (now list) x 0 < 64) ⌝ }
+    requires { ⌜ (32 ≤ length (now first)) × (32 ≤ length (now second)) × ((x : ℕ) → x < length (now list) → getD (now list) x 0 < 32) ⌝ }
     ensures { λ r. ⌜ Tells r (Alike (now (list .entry)) (now (first .entry)) (now (second .entry))) ⌝ }
 {
     let mut x = 0;
@@ -107,7 +107,7 @@ fn alike(list: &[u8], first: &[u8], second: &[u8]) -> bool
 
 // A number below 16384 made from the grades that are read. Rows that look alike have the same.
 fn signature(list: &[u8], row: &[u8]) -> usize
-    requires { ⌜ (64 ≤ length (now row)) × ((x : ℕ) → x < length (now list) → getD (now list) x 0 < 64) ⌝ }
+    requires { ⌜ (32 ≤ length (now row)) × ((x : ℕ) → x < length (now list) → getD (now list) x 0 < 32) ⌝ }
     ensures { λ r. ⌜ r < 16384 ⌝ }
 {
     let mut number: usize = 0;
@@ -122,7 +122,7 @@ fn signature(list: &[u8], row: &[u8]) -> usize
 
 // Does `c` look like the last candidate with its signature? If not, it takes that one's place in the memory.
 fn matched(list: &[u8], rows: &[u8], memory: &mut [u16], c: usize) -> bool
-    requires { ⌜ (1048576 ≤ length (now rows)) × (16384 ≤ length (now memory)) × (c < 16384) × ((x : ℕ) → x < length (now list) → getD (now list) x 0 < 64) ⌝ }
+    requires { ⌜ (524288 ≤ length (now rows)) × (16384 ≤ length (now memory)) × (c < 16384) × ((x : ℕ) → x < length (now list) → getD (now list) x 0 < 32) ⌝ }
     requires { ⌜ ((h : ℕ) → getD (now memory) h 0 ≤ 16384) ⌝ }
     ensures { λ r. ⌜ Matched (now (list .entry)) (now (rows .entry)) c (now (memory .entry)) (now (memory .exit)) r ⌝ }
 {
@@ -144,8 +144,8 @@ fn matched(list: &[u8], rows: &[u8], memory: &mut [u16], c: usize) -> bool
 
 // Takes from individual `j` the candidates that look like an earlier one. The memory is empty.
 fn thin_by(list: &[u8], rows: &[u8], table: &mut [u8], memory: &mut [u16], j: usize, count: usize)
-    requires { ⌜ (1048576 ≤ length (now rows)) × (131072 ≤ length (now table)) × (16384 ≤ length (now memory)) × (j < 8) × (count ≤ 16384)
-        × ((x : ℕ) → x < length (now list) → getD (now list) x 0 < 64) ⌝ }
+    requires { ⌜ (524288 ≤ length (now rows)) × (131072 ≤ length (now table)) × (16384 ≤ length (now memory)) × (j < 8) × (count ≤ 16384)
+        × ((x : ℕ) → x < length (now list) → getD (now list) x 0 < 32) ⌝ }
     requires { ⌜ ((h : ℕ) → getD (now memory) h 0 ≡ 0) ⌝ }
     ensures { λ _. ⌜ ThinnedAt (now (list .entry)) (now (rows .entry)) j count (now (table .entry)) (now (table .exit)) ⌝ }
 {
@@ -168,7 +168,7 @@ fn thin_in(
     logic: Logic,
     net: &[u8],
     ends: &[u16],
-    terms: usize,
+    columns: usize,
     count: usize,
     individuals: usize,
     rows: &[u8],
@@ -178,12 +178,12 @@ fn thin_in(
     memory: &mut [u16],
     j: usize,
 )
-    requires { ⌜ Problem logic terms (now net) (now ends) count individuals (now rows) ⌝ }
-    requires { ⌜ (j < individuals) × (131072 ≤ length (now table)) × (64 ≤ length (now seen)) × (64 ≤ length (now list)) × (16384 ≤ length (now memory))
+    requires { ⌜ Problem logic columns (now net) (now ends) count individuals (now rows) ⌝ }
+    requires { ⌜ (j < individuals) × (131072 ≤ length (now table)) × (32 ≤ length (now seen)) × (32 ≤ length (now list)) × (16384 ≤ length (now memory))
         × ((h : ℕ) → getD (now memory) h 0 ≡ 0) ⌝ }
     ensures { λ _. ⌜ Thinned logic (now (net .entry)) (now (ends .entry)) count (now (rows .entry)) individuals (now (table .entry)) (now (table .exit)) ⌝ }
 {
-    note_all(logic, net, ends, j, terms, seen);
+    note_all(logic, net, ends, j, columns, seen);
     let m = list_read(seen, list);
     thin_by(&list[..m], rows, table, memory, j, count);
 }
@@ -193,25 +193,25 @@ fn thin_one(
     logic: Logic,
     net: &[u8],
     ends: &[u16],
-    terms: usize,
+    columns: usize,
     count: usize,
     individuals: usize,
     rows: &[u8],
     table: &mut [u8],
     j: usize,
 )
-    requires { ⌜ Problem logic terms (now net) (now ends) count individuals (now rows) ⌝ }
+    requires { ⌜ Problem logic columns (now net) (now ends) count individuals (now rows) ⌝ }
     requires { ⌜ (j < individuals) × (131072 ≤ length (now table)) ⌝ }
     ensures { λ _. ⌜ Thinned logic (now (net .entry)) (now (ends .entry)) count (now (rows .entry)) individuals (now (table .entry)) (now (table .exit)) ⌝ }
 {
-    let mut seen = [0u8; 64];
-    let mut list = [0u8; 64];
+    let mut seen = [0u8; 32];
+    let mut list = [0u8; 32];
     let mut memory = [0u16; 16384];
     thin_in(
         logic,
         net,
         ends,
-        terms,
+        columns,
         count,
         individuals,
         rows,
@@ -228,19 +228,29 @@ pub fn thin(
     logic: Logic,
     net: &[u8],
     ends: &[u16],
-    terms: usize,
+    columns: usize,
     count: usize,
     individuals: usize,
     rows: &[u8],
     table: &mut [u8],
 )
-    requires { ⌜ Problem logic terms (now net) (now ends) count individuals (now rows) ⌝ }
+    requires { ⌜ Problem logic columns (now net) (now ends) count individuals (now rows) ⌝ }
     requires { ⌜ 131072 ≤ length (now table) ⌝ }
     ensures { λ _. ⌜ Thinned logic (now (net .entry)) (now (ends .entry)) count (now (rows .entry)) individuals (now (table .entry)) (now (table .exit)) ⌝ }
 {
     let mut j = 0;
     while j < individuals {
-        thin_one(logic, net, ends, terms, count, individuals, rows, table, j);
+        thin_one(
+            logic,
+            net,
+            ends,
+            columns,
+            count,
+            individuals,
+            rows,
+            table,
+            j,
+        );
         j += 1;
     }
 }

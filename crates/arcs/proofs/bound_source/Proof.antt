@@ -19,14 +19,14 @@ returns : tie.Need-returns
 returns c =
     let s = c .before .before .before .before .before .before in
     let a = s .args in
-    source-some (a .logic) (a .terms) (a .k) (s .pre .0) (a .target .now) (c .before .before .through .result)
+    source-some (a .logic) (a .columns) (a .k) (s .pre .0) (a .target .now) (c .before .before .through .result)
     (rw (← c .before .before .before .before .wide .ensures .0) (c .before .before .through .ensures)) (c .if1 .taken)
 
 returns-2 : tie.Need-returns-2
 returns-2 c =
     let s = c .before .before .before .before .before .before in
     let a = s .args in
-    source-all (a .logic) (a .terms) (a .k) (s .pre .0) (a .target .now) (c .before .before .through .result)
+    source-all (a .logic) (a .columns) (a .k) (s .pre .0) (a .target .now) (c .before .before .through .result)
     (rw (← c .before .before .before .before .wide .ensures .0) (c .before .before .through .ensures)) (c .if1 .left)
 
 pub bound-source-spec : {M : Type 1} → statement M

@@ -13,12 +13,12 @@ use Rattle.arcs.proofs.bound_sources.Statement.{statement}
 use Rattle.arcs.proofs.bound_sources.Tie as tie
 
 abbrev Inv-loop : tie.InvT-loop
-Inv-loop logic s terms target bounds₀ start count m₀ y₀ bounds m y =
+Inv-loop logic s columns target bounds₀ start count m₀ y₀ bounds m y =
     (length bounds ≡ length bounds₀) × (y ≤ constraintCount s) × (m ≤ start + y)
-    × Narrowed logic terms (λ v. (z : ℕ) → z < y → Met logic (constraintAt s z) v target) bounds₀ start bounds m
+    × Narrowed logic columns (λ v. (z : ℕ) → z < y → Met logic (constraintAt s z) v target) bounds₀ start bounds m
 
 abbrev μ-loop : tie.MeasureT-loop
-μ-loop logic s terms target bounds₀ start count m₀ y₀ bounds m y = constraintCount s - y
+μ-loop logic s columns target bounds₀ start count m₀ y₀ bounds m y = constraintCount s - y
 
 loop-holds : tie.Need-loop-holds Inv-loop μ-loop
 loop-holds c =
@@ -34,14 +34,14 @@ bound-source-requires c κs =
     let s = c .before .before .before .before .before .before in
     let a = s .args in
     let l = c .before .before .loop in
-    (subst (λ (k : Constraint). Right (a .logic) (a .terms) k) (sym (c .constraint-at .ensures)) (s .pre .0 (l .y) (omega (arith, c .before .loop-test .taken))), s .pre .1)
+    (subst (λ (k : Constraint). Right (a .logic) (a .columns) k) (sym (c .constraint-at .ensures)) (s .pre .0 (l .y) (omega (arith, c .before .loop-test .taken))), s .pre .1)
 
 put-bound-requires : tie.Need-put-bound-requires Inv-loop μ-loop
 put-bound-requires c κs =
     let s = c .before .before .before .before .before .before .before .before in
     let a = s .args in
     let l = c .before .before .before .before .loop in
-    (c .before .bound-source .ensures .term-lt, omega (arith, l .inv .0, l .inv .2, c .before .before .before .loop-test .taken, s .pre .2))
+    (c .before .bound-source .ensures .column-lt, omega (arith, l .inv .0, l .inv .2, c .before .before .before .loop-test .taken, s .pre .2))
 
 add-y : tie.Need-add-y Inv-loop μ-loop
 add-y c = search needs
@@ -59,9 +59,9 @@ loop-again c =
       t .kept .1 .1 .1 .0 ∙ l .inv .0,
       omega (arith, c .before .before .before .before .before .before .loop-test .taken),
       omega (arith, t .ensures .1, l .inv .2),
-      narrowed-more (a .logic) (a .terms) (λ z v. Met (a .logic) (constraintAt (a .s .now) z) v (a .target .now)) (l .y)
+      narrowed-more (a .logic) (a .columns) (λ z v. Met (a .logic) (constraintAt (a .s .now) z) v (a .target .now)) (l .y)
           (b .result) (a .bounds .now) (a .start) (l .bounds) (l .m) _ (t .result)
-          (subst (λ (k : Constraint). Asks (a .logic) (a .terms) (λ v. Met (a .logic) k v (a .target .now)) (b .result)) (c .before .before .before .before .before .constraint-at .ensures) (b .ensures))
+          (subst (λ (k : Constraint). Asks (a .logic) (a .columns) (λ v. Met (a .logic) k v (a .target .now)) (b .result)) (c .before .before .before .before .before .constraint-at .ensures) (b .ensures))
           (l .inv .3) (t .ensures .0),
     )
 
@@ -74,7 +74,7 @@ returns c =
     let a = s .args in
     let l = c .before .loop in
     let e : l .y ≡ constraintCount (a .s .now) = omega (arith, l .inv .1, c .loop-test .left) in
-    (subst (λ (x : ℕ). Narrowed (a .logic) (a .terms) (λ v. (z : ℕ) → z < x → Met (a .logic) (constraintAt (a .s .now) z) v (a .target .now)) (a .bounds .now) (a .start) (l .bounds) (l .m)) e (l .inv .3), omega (arith, l .inv .2))
+    (subst (λ (x : ℕ). Narrowed (a .logic) (a .columns) (λ v. (z : ℕ) → z < x → Met (a .logic) (constraintAt (a .s .now) z) v (a .target .now)) (a .bounds .now) (a .start) (l .bounds) (l .m)) e (l .inv .3), omega (arith, l .inv .2))
 
 pub bound-sources-spec : {M : Type 1} → statement M
 bound-sources-spec =

@@ -22,14 +22,14 @@ returns : tie.Need-returns
 returns c =
     let s = c .before .before .before .before .before .before in
     let a = s .args in
-    target-some (a .logic) (a .terms) (a .k) (s .pre .0) (a .source .now) (c .before .before .bound .result)
+    target-some (a .logic) (a .columns) (a .k) (s .pre .0) (a .source .now) (c .before .before .bound .result)
     (rw (← c .before .before .before .before .wide .ensures .0) (c .before .before .bound .ensures)) (c .if1 .taken)
 
 returns-2 : tie.Need-returns-2
 returns-2 c =
     let s = c .before .before .before .before .before .before in
     let a = s .args in
-    target-all (a .logic) (a .terms) (a .k) (s .pre .0) (a .source .now) (c .before .before .bound .result)
+    target-all (a .logic) (a .columns) (a .k) (s .pre .0) (a .source .now) (c .before .before .bound .result)
     (rw (← c .before .before .before .before .wide .ensures .0) (c .before .before .bound .ensures)) (c .if1 .left)
 
 pub bound-target-spec : {M : Type 1} → statement M

@@ -14,12 +14,12 @@ use Rattle.arcs.proofs.pass.Statement.{statement}
 use Rattle.arcs.proofs.pass.Tie as tie
 
 abbrev Inv-loop : tie.InvT-loop
-Inv-loop logic net ends terms count individuals rows table₀ bounds₀ changed₀ j₀ table bounds changed j =
+Inv-loop logic net ends columns count individuals rows table₀ bounds₀ changed₀ j₀ table bounds changed j =
     (length table ≡ length table₀) × (length bounds ≡ length bounds₀) × Gaps table individuals count
     × Revised logic net ends count rows individuals (ConsistentTo logic net ends count rows individuals j) changed table₀ table
 
 abbrev μ-loop : tie.MeasureT-loop
-μ-loop logic net ends terms count individuals rows table₀ bounds₀ changed₀ j₀ table bounds changed j = individuals - j
+μ-loop logic net ends columns count individuals rows table₀ bounds₀ changed₀ j₀ table bounds changed j = individuals - j
 
 loop-holds : tie.Need-loop-holds Inv-loop μ-loop
 loop-holds c =
@@ -37,7 +37,7 @@ revise-all-requires c κs =
     let a = s .args in
     let l = c .before .before .before .loop in
     let p = s .pre .1 .0 in
-    let g = graded-fewer (a .logic) (a .terms) (a .count) (a .individuals) (a .rows .now) (a .table .now) (l .table) (l .inv .3 .pruned .fewer) (s .pre .1 .1 .1) in (
+    let g = graded-fewer (a .logic) (a .columns) (a .count) (a .individuals) (a .rows .now) (a .table .now) (l .table) (l .inv .3 .pruned .fewer) (s .pre .1 .1 .1) in (
       s .pre .0,
       ((c .before .before .loop-test .taken, omega (arith, l .inv .0, p .0), omega (arith, l .inv .1, p .1)), (l .inv .2, g)),
     )

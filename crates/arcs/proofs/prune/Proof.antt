@@ -11,12 +11,12 @@ use Rattle.arcs.proofs.prune.Statement.{statement}
 use Rattle.arcs.proofs.prune.Tie as tie
 
 abbrev Inv-loop : tie.InvT-loop
-Inv-loop logic net ends terms count individuals rows table₀ bounds₀ table bounds =
+Inv-loop logic net ends columns count individuals rows table₀ bounds₀ table bounds =
     (length table ≡ length table₀) × (length bounds ≡ 384) × Gaps table individuals count
     × Pruned logic net ends count rows individuals table₀ table
 
 abbrev μ-loop : tie.MeasureT-loop
-μ-loop logic net ends terms count individuals rows table₀ bounds₀ table bounds = left table
+μ-loop logic net ends columns count individuals rows table₀ bounds₀ table bounds = left table
 
 loop-holds : tie.Need-loop-holds Inv-loop μ-loop
 loop-holds c =
@@ -32,7 +32,7 @@ pass-requires c κs =
     let s = c .before .before .before .before .before .before .before in
     let a = s .args in
     let l = c .before .before .loop in
-    (s .pre .0, ((omega (arith, l .inv .0, s .pre .1 .0), omega (arith, l .inv .1)), (l .inv .2, graded-fewer (a .logic) (a .terms) (a .count) (a .individuals) (a .rows .now) (a .table .now) (l .table) (l .inv .3 .fewer) (s .pre .1 .1 .1))))
+    (s .pre .0, ((omega (arith, l .inv .0, s .pre .1 .0), omega (arith, l .inv .1)), (l .inv .2, graded-fewer (a .logic) (a .columns) (a .count) (a .individuals) (a .rows .now) (a .table .now) (l .table) (l .inv .3 .fewer) (s .pre .1 .1 .1))))
 
 same-length : tie.Need-same-length Inv-loop μ-loop
 same-length c = c .before .before .before .before .pass .kept .1 .1 .1 .1 .1 .1 .1 .0 ∙ c .before .before .before .before .before .before .before .loop .inv .0

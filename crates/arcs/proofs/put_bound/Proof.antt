@@ -12,7 +12,7 @@ returns : tie.Need-returns
 returns c =
     let s = c .before .before .before .before .before in
     let a = s .args in
-    (narrowed-all (a .logic) (a .terms) (a .bounds .now) (a .m) (a .b) (s .pre .0) (c .before .before .before .if1 .taken) (c .if2 .taken), omega arith)
+    (narrowed-all (a .logic) (a .columns) (a .bounds .now) (a .m) (a .b) (s .pre .0) (c .before .before .before .if1 .taken) (c .if2 .taken), omega arith)
 
 mul-bounds : tie.Need-mul-bounds
 mul-bounds c = search needs
@@ -27,7 +27,7 @@ add-bounds : tie.Need-add-bounds
 add-bounds c = search needs
 
 slice-write-bounds-2 : tie.Need-slice-write-bounds-2
-slice-write-bounds-2 c = let s = c .before .before in let a = s .args in omega (arith, s .pre .1, length-set (a .bounds .now) (3 * a .m) (a .b .term))
+slice-write-bounds-2 c = let s = c .before .before in let a = s .args in omega (arith, s .pre .1, length-set (a .bounds .now) (3 * a .m) (a .b .column))
 
 mul-bounds-3 : tie.Need-mul-bounds-3
 mul-bounds-3 c = search needs
@@ -39,7 +39,7 @@ slice-write-bounds-3 : tie.Need-slice-write-bounds-3
 slice-write-bounds-3 c =
     let s = c .before .before in
     let a = s .args in
-    omega (arith, s .pre .1, length-set (a .bounds .now) (3 * a .m) (a .b .term), length-set (set (a .bounds .now) (3 * a .m) (a .b .term)) (3 * a .m + 1) (a .b .low))
+    omega (arith, s .pre .1, length-set (a .bounds .now) (3 * a .m) (a .b .column), length-set (set (a .bounds .now) (3 * a .m) (a .b .column)) (3 * a .m + 1) (a .b .low))
 
 add-result : tie.Need-add-result
 add-result c = search needs
@@ -51,7 +51,7 @@ returns-2 : tie.Need-returns-2
 returns-2 c =
     let s = c .before .before in
     let a = s .args in
-    (narrowed-one (a .bounds .now) (a .m) (a .b) (a .logic) (a .terms) (s .pre .0) (s .pre .1), omega arith)
+    (narrowed-one (a .bounds .now) (a .m) (a .b) (a .logic) (a .columns) (s .pre .0) (s .pre .1), omega arith)
 
 pub put-bound-spec : {M : Type 1} → statement M
 put-bound-spec =

@@ -13,12 +13,12 @@ use Rattle.arcs.proofs.revise.Statement.{statement}
 use Rattle.arcs.proofs.revise.Tie as tie
 
 abbrev Inv-loop : tie.InvT-loop
-Inv-loop logic forth back terms count individuals rows table₀ bounds₀ j i changed₀ hint₀ next₀ table bounds changed hint next =
+Inv-loop logic forth back columns count individuals rows table₀ bounds₀ j i changed₀ hint₀ next₀ table bounds changed hint next =
     (length table ≡ length table₀) × (length bounds ≡ length bounds₀) × (hint ≤ count) × Gaps table individuals count
     × RevisedBy logic forth back count rows j i next changed table₀ table
 
 abbrev μ-loop : tie.MeasureT-loop
-μ-loop logic forth back terms count individuals rows table₀ bounds₀ j i changed₀ hint₀ next₀ table bounds changed hint next = count - next
+μ-loop logic forth back columns count individuals rows table₀ bounds₀ j i changed₀ hint₀ next₀ table bounds changed hint next = count - next
 
 loop-holds : tie.Need-loop-holds Inv-loop μ-loop
 loop-holds c =
@@ -61,7 +61,7 @@ support-requires c κs =
     let l = c .before .before .before .before .before .before .loop in
     let p = s .pre .1 .0 in
     let lt = c .before .before .before .before .before .loop-test .taken in
-    let g = graded-fewer (a .logic) (a .terms) (a .count) (a .individuals) (a .rows .now) (a .table .now) (l .table) (l .inv .4 .fewer) (s .pre .1 .1 .4) in
+    let g = graded-fewer (a .logic) (a .columns) (a .count) (a .individuals) (a .rows .now) (a .table .now) (l .table) (l .inv .4 .fewer) (s .pre .1 .1 .4) in
     let on = g (a .j) (l .next) (p .0) lt (c .before .before .before .leap .ensures .0 (omega (arith, c .before .before .if1 .left))) in (
       s .pre .0,
       ((p .1, p .2, lt, l .inv .2, p .4, on), (omega (arith, l .inv .0, s .pre .1 .1 .0), s .pre .1 .1 .1, omega (arith, l .inv .1, s .pre .1 .1 .2), l .inv .3, g)),

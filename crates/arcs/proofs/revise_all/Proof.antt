@@ -15,12 +15,12 @@ use Rattle.arcs.proofs.revise_all.Statement.{statement}
 use Rattle.arcs.proofs.revise_all.Tie as tie
 
 abbrev Inv-loop : tie.InvT-loop
-Inv-loop logic net ends terms count individuals rows table₀ bounds₀ j changed₀ next₀ table bounds changed next =
+Inv-loop logic net ends columns count individuals rows table₀ bounds₀ j changed₀ next₀ table bounds changed next =
     (length table ≡ length table₀) × (length bounds ≡ length bounds₀) × Gaps table individuals count
     × Revised logic net ends count rows individuals (SupportedTo logic net ends count rows j next) changed table₀ table
 
 abbrev μ-loop : tie.MeasureT-loop
-μ-loop logic net ends terms count individuals rows table₀ bounds₀ j changed₀ next₀ table bounds changed next = individuals - next
+μ-loop logic net ends columns count individuals rows table₀ bounds₀ j changed₀ next₀ table bounds changed next = individuals - next
 
 loop-holds : tie.Need-loop-holds Inv-loop μ-loop
 loop-holds c =
@@ -59,7 +59,7 @@ revise-by-requires c κs =
     let a = s .args in
     let l = c .before .before .before .before .loop in
     let p = s .pre .1 .0 in
-    let g = graded-fewer (a .logic) (a .terms) (a .count) (a .individuals) (a .rows .now) (a .table .now) (l .table) (l .inv .3 .pruned .fewer) (s .pre .1 .1 .1) in (
+    let g = graded-fewer (a .logic) (a .columns) (a .count) (a .individuals) (a .rows .now) (a .table .now) (l .table) (l .inv .3 .pruned .fewer) (s .pre .1 .1 .1) in (
       s .pre .0,
       ((p .0, c .before .before .before .loop-test .taken, c .before .before .if1 .left, omega (arith, l .inv .0, p .1), omega (arith, l .inv .1, p .2)), (l .inv .2, g)),
     )

@@ -8,7 +8,7 @@ use native.Mathlib.Decide.{decLt}
 use native.Mathlib.Omega.{arith}
 use borrow.Author.Count.{below-more}
 use borrow.Author.Needs.{needs}
-use Rattle.grades.proofs.Rows.{length-rowAt}
+use Rattle.network.proofs.Rows.{length-rowAt}
 use Rattle.arcs.specs.Boxes.{Inside}
 use Rattle.arcs.specs.Arcs.{Hit}
 use Rattle.arcs.proofs.seek.Statement.{statement}

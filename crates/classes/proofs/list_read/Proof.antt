@@ -1,4 +1,4 @@
--- `classes::list_read` meets its contract. The terms below `t` are listed.
+-- `classes::list_read` meets its contract. The columns below `t` are listed.
 -- Assumes nothing.
 use mathlib.Core.Path.{refl, _∙_, _≡_, subst}
 use Prim.Native.Nat.{ℕ, _≤_, _-_}
@@ -11,10 +11,10 @@ use Rattle.classes.proofs.list_read.Statement.{statement}
 use Rattle.classes.proofs.list_read.Tie as tie
 
 abbrev Inv-loop : tie.InvT-loop
-Inv-loop seen list₀ m₀ t₀ list m t = (length list ≡ length list₀) × (t ≤ 64) × Listed seen t m list
+Inv-loop seen list₀ m₀ t₀ list m t = (length list ≡ length list₀) × (t ≤ 32) × Listed seen t m list
 
 abbrev μ-loop : tie.MeasureT-loop
-μ-loop seen list₀ m₀ t₀ list m t = 64 - t
+μ-loop seen list₀ m₀ t₀ list m t = 32 - t
 
 loop-holds : tie.Need-loop-holds Inv-loop μ-loop
 loop-holds c = let a = c .before .before .args in (refl, omega arith, listed-none (a .seen .now) (a .list .now))
@@ -44,7 +44,7 @@ returns : tie.Need-returns Inv-loop μ-loop
 returns c =
     let s = c .before .before .before .before in
     let l = c .before .loop in
-    let e : l .t ≡ 64 = omega (arith, l .inv .1, c .loop-test .left) in subst (λ (x : ℕ). Listed (s .args .seen .now) x (l .m) (l .list)) e (l .inv .2)
+    let e : l .t ≡ 32 = omega (arith, l .inv .1, c .loop-test .left) in subst (λ (x : ℕ). Listed (s .args .seen .now) x (l .m) (l .list)) e (l .inv .2)
 
 pub list-read-spec : {M : Type 1} → statement M
 list-read-spec =

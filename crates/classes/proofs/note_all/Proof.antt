@@ -12,10 +12,10 @@ use Rattle.classes.proofs.note_all.Statement.{statement}
 use Rattle.classes.proofs.note_all.Tie as tie
 
 abbrev Inv-loop : tie.InvT-loop
-Inv-loop logic net ends j terms seen₀ next₀ seen next = (length seen ≡ length seen₀) × (next ≤ 8) × Read net ends j next seen
+Inv-loop logic net ends j columns seen₀ next₀ seen next = (length seen ≡ length seen₀) × (next ≤ 8) × Read net ends j next seen
 
 abbrev μ-loop : tie.MeasureT-loop
-μ-loop logic net ends j terms seen₀ next₀ seen next = 8 - next
+μ-loop logic net ends j columns seen₀ next₀ seen next = 8 - next
 
 loop-holds : tie.Need-loop-holds Inv-loop μ-loop
 loop-holds c = (refl, omega arith, below-none _)

@@ -17,7 +17,7 @@ slice-aggregate-thin-in-3 c = search needs
 thin-in-requires : tie.Need-thin-in-requires
 thin-in-requires c κs =
     let s = c .before .before .before .before .before .before .before .before in
-    (s .pre .0, (s .pre .1 .0, s .pre .1 .1, zeros-long 64, zeros-long 64, zeros-long 16384, zeros-at 16384))
+    (s .pre .0, (s .pre .1 .0, s .pre .1 .1, zeros-long 32, zeros-long 32, zeros-long 16384, zeros-at 16384))
 
 same-length : tie.Need-same-length
 same-length c = search needs
