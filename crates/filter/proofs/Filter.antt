@@ -1,81 +1,146 @@
--- Laws of the filter: what a membership claim asks by the numbers that code reads, and how the table fills.
+-- Laws of the filter: what a membership claim asks by the numbers that code reads, and how the rows and the table fill.
 -- Assumes nothing.
 use mathlib.Core.Path.{_≡_, refl, sym, subst, _∙_}
 use mathlib.Core.Bool.{Bool}
 use mathlib.Core.Logic.{_↔_, ⊎-elim}
 use mathlib.Core.List.{List}
-use Prim.Native.Nat.{ℕ, _+_, _*_, _<_}
+use Prim.Native.Nat.{ℕ, _+_, _*_, _≤_, _<_}
 use native.Mathlib.Numerals.{add-one}
 use native.Mathlib.Decide.{ℕ-discrete}
 use native.Mathlib.Omega.{arith}
-use lib.ListN.{length, getD, set}
+use lib.ListN.{length, getD, set, take}
 use lib.Seq.{getD-set-same, getD-set-other}
 use Rattle.chain.specs.Decisions.{Tells}
 use Rattle.chain.proofs.Decisions.{tells-map}
 use Rattle.chain.proofs.Search.{below-cases}
+use Rattle.chain.proofs.Blocks.{block-kept, each-block-more}
+use Rattle.semantics.specs.Terms.{Ordered}
 use Rattle.semantics.specs.Books.{Claimed}
+use Rattle.sections.specs.Terms.{termCount, termsOf}
 use Rattle.sections.specs.Claims.{membershipAt}
+use Rattle.sections.proofs.Terms.{length-terms, terms-ordered}
+use Rattle.gradings.specs.Gradings.{grading}
 use Rattle.gradings.specs.declared.Logic.{Logic}
-use Rattle.grades.specs.Rows.{rowAt}
+use Rattle.slots.specs.Rows.{TermsBelow, SlotRow}
+use Rattle.slots.proofs.Rows.{slots-below, slot-row-same}
+use Rattle.grades.specs.Rows.{HasGrades, entry}
 use Rattle.elimination.specs.Marks.{Marked}
+use Rattle.network.specs.Rows.{rowAt}
 use Rattle.domains.specs.Tables.{Allowed}
-use Rattle.filter.specs.Filter.{MembershipBy, Admits, Filtered, Column}
+use Rattle.filter.specs.Filter.{Task, ClaimsBelow, MembershipBy, MembershipsBy, Admits, gradesOf, Column, Entered, Filtered}
 
--- ---- one claim
+-- ---- membership claims
 
 -- a claim about individual j, by the numbers that code reads for its individual and its term
-pub membership-told : (r : Bool) (ms : List ℕ) (j : ℕ) (row : List ℕ) (i who term : ℕ) → who ≡ membershipAt ms i .individual → who ≡ j → term ≡ membershipAt ms i .term
-    → Tells r (Claimed (membershipAt ms i .sense) (membershipAt ms i .grade) (getD row term 0)) → Tells r (MembershipBy ms j row i)
-membership-told r ms j row i who term a b e t = tells-map r (λ h _. subst Met e h) (λ f. subst Met (sym e) (f (sym a ∙ b))) t
+pub membership-told : (r : Bool) (ms : List ℕ) (j : ℕ) (f : ℕ → ℕ) (i who term : ℕ) → who ≡ membershipAt ms i .individual → who ≡ j → term ≡ membershipAt ms i .term
+    → Tells r (Claimed (membershipAt ms i .sense) (membershipAt ms i .grade) (f term)) → Tells r (MembershipBy ms j f i)
+membership-told r ms j f i who term a b e t = tells-map r (λ h _. subst Met e h) (λ g. subst Met (sym e) (g (sym a ∙ b))) t
   where
     Met : ℕ → Type 0
-    Met x = Claimed (membershipAt ms i .sense) (membershipAt ms i .grade) (getD row x 0)
+    Met x = Claimed (membershipAt ms i .sense) (membershipAt ms i .grade) (f x)
 
--- ---- the table fills, candidate by candidate, and for each of them individual by individual
+-- where they are about terms below n, they ask the same of grades that are the same there
+memberships-same : (ms : List ℕ) (n : ℕ) → ClaimsBelow ms n → (f g : ℕ → ℕ) → ((i : ℕ) → i < n → f i ≡ g i) → (j : ℕ) → MembershipsBy ms j f → MembershipsBy ms j g
+memberships-same ms n below f g same j h i l e = rw (← same (membershipAt ms i .term) (below i l)) (h i l e)
+
+-- ---- what the table says of one candidate, individual by individual
 
 module _ (lg : Logic) (ms net ends : List ℕ) where
-  module _ (row : List ℕ) (c : ℕ) (small : c < 16384) (old : List ℕ) where
-    pub column-start : Column lg ms net ends row 0 c old old
+  module _ (f : ℕ → ℕ) (row : List ℕ) (c : ℕ) (old : List ℕ) where
+    pub column-start : Column lg ms net ends f row 0 c old old
     column-start = record { here = λ j h. absurd (omega arith); elsewhere = λ j d l n. refl }
 
-    pub column-turn : (k : ℕ) (u : List ℕ) (b : ℕ) → 16384 * k + c < length u → (b ≡ 1) ↔ Admits lg ms net ends k row → Column lg ms net ends row k c old u
-        → Column lg ms net ends row (k + 1) c old (set u (16384 * k + c) b)
-    column-turn k u b l a w = record {
+    pub column-turn : c < 16384 → (k : ℕ) (u : List ℕ) (b : ℕ) → 16384 * k + c < length u → (b ≡ 1) ↔ Admits lg ms net ends k f row
+        → Column lg ms net ends f row k c old u → Column lg ms net ends f row (k + 1) c old (set u (16384 * k + c) b)
+    column-turn small k u b l a w = record {
       here = λ j h. ⊎-elim
-          (λ e. subst (λ (z : ℕ). Allowed (set u (16384 * k + c) b) z c ↔ Admits lg ms net ends z row) (sym e)
-          (subst (λ (y : ℕ). (y ≡ 1) ↔ Admits lg ms net ends k row) (sym (getD-set-same u (16384 * k + c) b 0 l)) a))
-          (λ g. subst (λ (y : ℕ). (y ≡ 1) ↔ Admits lg ms net ends j row) (sym (getD-set-other u (16384 * k + c) (16384 * j + c) b 0 (λ e. omega arith))) (w .here j g))
+          (λ e. subst (λ (z : ℕ). Allowed (set u (16384 * k + c) b) z c ↔ Admits lg ms net ends z f row) (sym e)
+          (subst (λ (y : ℕ). (y ≡ 1) ↔ Admits lg ms net ends k f row) (sym (getD-set-same u (16384 * k + c) b 0 l)) a))
+          (λ g. subst (λ (y : ℕ). (y ≡ 1) ↔ Admits lg ms net ends j f row) (sym (getD-set-other u (16384 * k + c) (16384 * j + c) b 0 (λ e. omega arith))) (w .here j g))
           (below-cases k j (rw (← add-one k) h));
       elsewhere = λ j d m n. getD-set-other u (16384 * k + c) (16384 * j + d) b 0 (λ e. n (omega arith)) ∙ w .elsewhere j d m n;
     }
 
-  module _ (marks rows : List ℕ) (n : ℕ) where
-    pub filtered-start : (table : List ℕ) → ((i : ℕ) → getD table i 0 ≡ 0) → Filtered lg ms net ends marks rows n 0 table
-    filtered-start table z j c h l = (λ e. absurd (omega (arith, z (16384 * j + c))), λ u. absurd (omega (arith, u .0)))
+    pub column-same : (n : ℕ) → ClaimsBelow ms n → (g : ℕ → ℕ) → ((i : ℕ) → i < n → f i ≡ g i) → (k : ℕ) (new : List ℕ)
+        → Column lg ms net ends f row k c old new → Column lg ms net ends g row k c old new
+    column-same n below g same k new w = record {
+      here = λ j h. let u = w .here j h in (
+        λ e. let v = u .0 e in (memberships-same ms n below f g same j (v .0), v .1),
+        λ v. u .1 (memberships-same ms n below g f (λ i l. sym (same i l)) j (v .0), v .1),
+      );
+      elsewhere = w .elsewhere;
+    }
 
-    module _ (c : ℕ) (small : c < 16384) where
-      pub filtered-off : (table : List ℕ) → ¬ Marked marks c → Filtered lg ms net ends marks rows n c table → Filtered lg ms net ends marks rows n (c + 1) table
-      filtered-off table m f j d h l = (
-        λ e. let u = f j d h l .0 e in (omega (arith, u .0), u .1, u .2),
-        λ u. ⊎-elim (λ e. absurd (m (subst (Marked marks) e (u .1)))) (λ g. f j d h l .1 (g, u .1, u .2)) (below-cases c d (rw (← add-one c) (u .0))),
-      )
+-- ---- the sections, by what is asked of them
 
-      pub filtered-on : (old new row : List ℕ) → row ≡ rowAt rows c → Marked marks c → Column lg ms net ends row n c old new
-          → Filtered lg ms net ends marks rows n c old → Filtered lg ms net ends marks rows n (c + 1) new
-      filtered-on old new row at m w f j d h l = (λ e. into e (ℕ-discrete d c), λ u. back u (ℕ-discrete d c))
-        where
-          same : ¬ (d ≡ c) → getD new (16384 * j + d) 0 ≡ getD old (16384 * j + d) 0
-          same g = w .elsewhere j d l g
+module _ {lg : Logic} {ts slots ms : List ℕ} (w : Task lg ts slots ms) where
+  ordered : Ordered (termsOf ts)
+  ordered = terms-ordered ts (w .terms-right)
 
-          here : d ≡ c → Allowed new j d ↔ Admits lg ms net ends j (rowAt rows d)
-          here q =
-              subst (λ (z : ℕ). Allowed new j z ↔ Admits lg ms net ends j (rowAt rows z)) (sym q)
-              (subst (λ (v : List ℕ). Allowed new j c ↔ Admits lg ms net ends j v) at (w .here j h))
+  -- slots and membership claims are about terms of which a row of n grades has one
+  pub slots-within : (n : ℕ) → termCount ts ≤ n → TermsBelow slots n
+  slots-within n l q h = omega (arith, length-terms ts, slots-below (termsOf ts) ordered slots (w .slots-are) q h)
 
-          into : Allowed new j d → Dec (d ≡ c) → (d < c + 1) × Marked marks d × Admits lg ms net ends j (rowAt rows d)
-          into e (yes q) = (omega arith, subst (Marked marks) (sym q) m, here q .0 e)
-          into e (no g) = let u = f j d h l .0 (sym (same g) ∙ e) in (omega (arith, u .0), u .1, u .2)
+  pub claims-within : (n : ℕ) → termCount ts ≤ n → ClaimsBelow ms n
+  claims-within n l i h = omega (arith, w .memberships-right i h .1 .0)
 
-          back : (d < c + 1) × Marked marks d × Admits lg ms net ends j (rowAt rows d) → Dec (d ≡ c) → Allowed new j d
-          back u (yes q) = here q .1 (u .2)
-          back u (no g) = same g ∙ f j d h l .1 (omega (arith, u .0, g), u .1, u .2)
+  -- candidate c is entered by its row of all grades
+  pub entered-by : (net ends : List ℕ) (c : ℕ) (grades : List ℕ) → HasGrades (grading lg (termsOf ts)) c grades → (n : ℕ) (rows rows' table table' : List ℕ)
+      → take (32 * c) rows' ≡ take (32 * c) rows → SlotRow slots (entry grades) (rowAt rows' c) → (row : List ℕ) → row ≡ rowAt rows' c
+      → Column lg ms net ends (entry grades) row n c table table' → Entered lg ts slots ms net ends n c rows rows' table table'
+  entered-by net ends c grades are n rows rows' table table' before here row at column = record {
+    before = before;
+    row = slot-row-same slots (entry grades) m (gradesOf lg ts c) (rowAt rows' c) (slots-below (termsOf ts) ordered slots (w .slots-are)) are here;
+    column = column-same lg ms net ends (entry grades) (rowAt rows' c) c table m (claims-within m (omega (arith, length-terms ts))) (gradesOf lg ts c) are n table'
+        (subst (λ (v : List ℕ). Column lg ms net ends (entry grades) v n c table table') at column);
+  }
+    where
+      m : ℕ
+      m = length (termsOf ts)
+
+-- ---- candidate by candidate
+
+module _ (lg : Logic) (ts slots ms net ends marks : List ℕ) (n : ℕ) where
+  pub filtered-start : (rows table : List ℕ) → ((i : ℕ) → getD table i 0 ≡ 0) → Filtered lg ts slots ms net ends marks n 0 rows table
+  filtered-start rows table z = record {
+    rowed = λ c h. absurd (omega arith);
+    allowed = λ j c h l. (λ e. absurd (omega (arith, z (16384 * j + c))), λ u. absurd (omega (arith, u .0)));
+  }
+
+  module _ (c : ℕ) (rows table : List ℕ) (f : Filtered lg ts slots ms net ends marks n c rows table) where
+    pub filtered-off : ¬ Marked marks c → Filtered lg ts slots ms net ends marks n (c + 1) rows table
+    filtered-off m = record {
+      rowed = λ d h k. ⊎-elim (λ e. absurd (m (subst (Marked marks) e k))) (λ g. f .rowed d g k) (below-cases c d (rw (← add-one c) h));
+      allowed = λ j d h l. (
+        λ e. let u = f .allowed j d h l .0 e in (omega (arith, u .0), u .1, u .2),
+        λ u. ⊎-elim (λ e. absurd (m (subst (Marked marks) e (u .1)))) (λ g. f .allowed j d h l .1 (g, u .1, u .2)) (below-cases c d (rw (← add-one c) (u .0))),
+      );
+    }
+
+    pub filtered-on : (rows' table' : List ℕ) → Marked marks c → Entered lg ts slots ms net ends n c rows rows' table table'
+        → Filtered lg ts slots ms net ends marks n (c + 1) rows' table'
+    filtered-on rows' table' m w = record {
+      rowed = each-block-more 32 c rows rows' (w .before) (λ d v. Marked marks d → SlotRow slots (gradesOf lg ts d) v) (f .rowed) (λ _. w .row);
+      allowed = λ j d h l. (λ e. into j d h l e (ℕ-discrete d c), λ u. back j d h l u (ℕ-discrete d c));
+    }
+      where
+        Passes : (j d : ℕ) → List ℕ → Type 0
+        Passes j d = Admits lg ms net ends j (gradesOf lg ts d)
+
+        kept : (d : ℕ) → d < c → rowAt rows' d ≡ rowAt rows d
+        kept = block-kept 32 c rows rows' (w .before)
+
+        here : (j d : ℕ) → j < n → d ≡ c → Allowed table' j d ↔ Passes j d (rowAt rows' d)
+        here j d h q = subst (λ (z : ℕ). Allowed table' j z ↔ Passes j z (rowAt rows' z)) (sym q) (w .column .here j h)
+
+        into : (j d : ℕ) → j < n → d < 16384 → Allowed table' j d → Dec (d ≡ c) → (d < c + 1) × Marked marks d × Passes j d (rowAt rows' d)
+        into j d h l e (yes q) = (omega arith, subst (Marked marks) (sym q) m, here j d h q .0 e)
+        into j d h l e (no g) =
+            let u = f .allowed j d h l .0 (sym (w .column .elsewhere j d l g) ∙ e) in
+            (omega (arith, u .0), u .1, subst (Passes j d) (sym (kept d (u .0))) (u .2))
+
+        back : (j d : ℕ) → j < n → d < 16384 → (d < c + 1) × Marked marks d × Passes j d (rowAt rows' d) → Dec (d ≡ c) → Allowed table' j d
+        back j d h l u (yes q) = here j d h q .1 (u .2)
+        back j d h l u (no g) =
+            let k : d < c = omega (arith, u .0, g) in
+            w .column .elsewhere j d l g ∙ f .allowed j d h l .1 (k, u .1, subst (Passes j d) (kept d k) (u .2))

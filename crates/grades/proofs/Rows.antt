@@ -1,7 +1,6 @@
 -- Laws of rows of grades, of tables of rows, and of the link of two rows: it is that of their candidates.
 -- Assumes nothing.
 use mathlib.Core.Path.{_≡_, sym, ap, _∙_}
-use mathlib.Core.Logic.{_↔_}
 use mathlib.Core.List.{List, _++_}
 use Prim.Native.Nat.{ℕ, _+_, _*_, _≤_}
 use native.Mathlib.Omega.{arith}
@@ -12,9 +11,9 @@ use Rattle.chain.proofs.Blocks.{length-block, each-block-more}
 use Rattle.semantics.specs.Terms.{Term, Ordered}
 use Rattle.semantics.specs.Interpretations.{Grading, WellFormed}
 use Rattle.semantics.specs.Candidates.{gradeIn}
-use Rattle.semantics.specs.Links.{Allows, linkBetween, link}
+use Rattle.semantics.specs.Links.{linkBetween, link}
 use Rattle.semantics.proofs.Candidates.{gradeIn-le}
-use Rattle.semantics.proofs.Links.{allows-alike, between-alike, link-allows}
+use Rattle.semantics.proofs.Links.{between-alike}
 use Rattle.gradings.specs.Gradings.{grading}
 use Rattle.gradings.specs.declared.Logic.{Logic}
 use Rattle.gradings.proofs.Gradings.{grading-well-formed}
@@ -67,15 +66,6 @@ module _ (l : Logic) (ts : List Term) (o : Ordered ts) (r c d : ℕ) (first seco
   w : WellFormed G
   w = grading-well-formed l ts o
 
-  -- a link is allowed between the rows up to the candidates' link, and not above it
-  pub rows-link : (s : ℕ) → s ≤ l .steps → Allows G r (entry first) (entry second) s ↔ (s ≤ link G r c d)
-  rows-link s h = (
-    λ a. link-allows G r c d w s h .1 (allows-alike G w r (entry first) (gradeIn G c) (entry second) (gradeIn G d) hf hs s a),
-    λ k. allows-alike G w r (gradeIn G c) (entry first) (gradeIn G d) (entry second) (λ i m. sym (hf i m)) (λ i m. sym (hs i m)) s
-        (link-allows G r c d w s h .0 k),
-  )
-
-  -- so their link is the candidates'
   pub rows-between : linkBetween G r (entry first) (entry second) ≡ link G r c d
   rows-between =
       sym (between-alike G w r (gradeIn G c) (entry first) (gradeIn G d) (entry second) (gradeIn-le G w c) (gradeIn-le G w d) (λ i m. sym (hf i m))

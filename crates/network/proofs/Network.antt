@@ -13,7 +13,7 @@ use borrow.Author.Count.{below-more}
 use Rattle.semantics.specs.Terms.{Term, Ordered}
 use Rattle.semantics.specs.Interpretations.{Grading}
 use Rattle.semantics.specs.Links.{Governs, Allows}
-use Rattle.semantics.proofs.Links.{allows-down, up-to-link}
+use Rattle.semantics.proofs.Links.{Graded, allows-down, up-to-link}
 use Rattle.sections.specs.Claims.{claimCount, linkAt, LinksRight}
 use Rattle.gradings.specs.Gradings.{grading}
 use Rattle.gradings.specs.declared.Logic.{Logic}
@@ -153,7 +153,7 @@ governs-same G t r = (λ e. e, λ e. e)
 
 module _ (l : Logic) (ts : List Term) (o : Ordered ts) (slots : List ℕ) (S : SlotsOf ts slots) where
   -- a row of slots is on the chain where the grades are
-  pub slot-row-on-chain : (f : ℕ → ℕ) (row : List ℕ) → ((i : ℕ) → i < length ts → f i ≤ l .steps) → SlotRow slots f row → OnChain l (2 * slotCount slots) row
+  pub slot-row-on-chain : (f : ℕ → ℕ) (row : List ℕ) → Graded (grading l ts) f → SlotRow slots f row → OnChain l (2 * slotCount slots) row
   slot-row-on-chain f row on w t h =
       dite (decLt t (slotCount slots)) (λ k. rw (w .own-is t k) (on (slotTerm slots t) (S .terms t k)))
       (λ n. let q : ℕ = t - slotCount slots in
@@ -174,8 +174,8 @@ module _ (l : Logic) (ts : List Term) (o : Ordered ts) (slots : List ℕ) (S : S
         })
 
     -- the constraints of a pair are met by two rows of slots exactly if the grades that these are of allow each link that is claimed of the pair
-    pub network-met : (f g : ℕ → ℕ) → ((i : ℕ) → i < length ts → f i ≤ l .steps) → ((i : ℕ) → i < length ts → g i ≤ l .steps)
-        → (a b : List ℕ) → SlotRow slots f a → SlotRow slots g b → AllMet l (constraintsOf net ends x) a b ↔ ClaimsMet (grading l ts) ls x f g
+    pub network-met : (f g : ℕ → ℕ) → Graded (grading l ts) f → Graded (grading l ts) g → (a b : List ℕ) → SlotRow slots f a → SlotRow slots g b
+        → AllMet l (constraintsOf net ends x) a b ↔ ClaimsMet (grading l ts) ls x f g
     network-met f g on-f on-g a b row-a row-b = (to, from)
       where
         G : Grading

@@ -6,12 +6,13 @@ use borrow.Author.Count.{below-none, below-more}
 use borrow.Author.Needs.{needs}
 use Rattle.chain.proofs.Decisions.{tells-yes, tells-no, told-yes, told-no}
 use Rattle.sections.specs.Claims.{claimCount}
+use Rattle.grades.specs.Rows.{entry}
 use Rattle.filter.specs.Filter.{MembershipBy}
 use Rattle.filter.proofs.memberships_met.Statement.{statement}
 use Rattle.filter.proofs.memberships_met.Tie as tie
 
 abbrev Inv-loop : tie.InvT-loop
-Inv-loop memberships j row count i₀ i = (i ≤ claimCount memberships) × ((x : ℕ) → x < i → MembershipBy memberships j row x)
+Inv-loop memberships j row count i₀ i = (i ≤ claimCount memberships) × ((x : ℕ) → x < i → MembershipBy memberships j (entry row) x)
 
 abbrev μ-loop : tie.MeasureT-loop
 μ-loop memberships j row count i₀ i = claimCount memberships - i
