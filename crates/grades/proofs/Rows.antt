@@ -66,6 +66,7 @@ module _ (l : Logic) (ts : List Term) (o : Ordered ts) (r c d : ℕ) (first seco
   w : WellFormed G
   w = grading-well-formed l ts o
 
+  -- their link is the candidates'
   pub rows-between : linkBetween G r (entry first) (entry second) ≡ link G r c d
   rows-between =
       sym (between-alike G w r (gradeIn G c) (entry first) (gradeIn G d) (entry second) (gradeIn-le G w c) (gradeIn-le G w d) (λ i m. sym (hf i m))

@@ -1,5 +1,5 @@
 pub mod Walk
 pub mod Seats
 pub mod Pruning
-pub mod Rows
+pub mod Prepared
 pub mod Placing

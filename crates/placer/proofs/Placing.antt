@@ -4,60 +4,60 @@ use mathlib.Core.Path.{_≡_, _∙_}
 use mathlib.Core.Bool.{Bool, false}
 use mathlib.Core.Logic.{dite}
 use mathlib.Core.List.{List, []}
-use Prim.Native.Nat.{ℕ, _<_}
+use Prim.Native.Nat.{ℕ, _*_, _<_}
 use native.Mathlib.Decide.{ℕ-discrete}
 use native.Mathlib.Omega.{arith}
 use lib.ListN.{length}
 use Rattle.chain.specs.Lists.{from}
 use Rattle.semantics.specs.Books.{Book}
-use Rattle.sections.specs.Terms.{termCount}
-use Rattle.sections.proofs.Terms.{length-terms}
 use Rattle.gradings.specs.declared.Logic.{Logic}
-use Rattle.grades.specs.Rows.{rowAt}
+use Rattle.slots.specs.Slots.{slotCount}
 use Rattle.elimination.specs.Marks.{Marked, marked}
 use Rattle.elimination.proofs.Marks.{marked-mem, marked-ascending}
 use Rattle.placement.specs.Dictionary.{Drawn}
 use Rattle.placement.specs.Outcome.{seat, HoldsAt, placementAmong}
 use Rattle.placement.proofs.Dictionary.{finds-same, finds-fewer, not-after-refl}
 use Rattle.placement.proofs.Outcome.{among-finds}
+use Rattle.network.specs.Rows.{rowAt}
 use Rattle.network.specs.Constraints.{AllMet}
 use Rattle.network.specs.Network.{between}
 use Rattle.domains.specs.Tables.{Vain}
 use Rattle.domains.specs.Consistent.{Consistent, Graded}
-use Rattle.filter.specs.Filter.{Admits, Filtered}
+use Rattle.filter.specs.Filter.{Admits, gradesOf, Filtered}
 use Rattle.placer.specs.Seats.{May, may?, walkOf, Finds}
 use Rattle.placer.specs.Placing.{claimsBook, Places}
 use Rattle.placer.proofs.Walk.{Follows}
 use Rattle.placer.proofs.Pruning.{seat-mem, seats-drawn, passed, asked, walk-follows, vain-finds}
-use Rattle.placer.proofs.Rows.{Prepared, on-chain, members-hold, links-hold}
+use Rattle.placer.proofs.Prepared.{Prepared, on-chain, members-hold, links-hold}
 
-module _ {lg : Logic} {ts slots ms ls marks : List ℕ} {count n : ℕ} {net ends rows : List ℕ} (w : Prepared lg ts slots ms ls marks count n net ends rows)
-    (table : List ℕ) (f : Filtered lg ms net ends marks rows n count table) where
+module _ {lg : Logic} {ts slots ms ls marks : List ℕ} {count n : ℕ} {net ends : List ℕ} (w : Prepared lg ts slots ms ls marks count n net ends)
+    (rows table : List ℕ) (f : Filtered lg ts slots ms net ends marks n count rows table) where
   abbrev B : Book
   B = claimsBook lg ts ms ls
 
   -- the rows of its candidates are on the chain
-  pub filtered-graded : Graded lg (termCount ts) count n rows table
+  pub filtered-graded : Graded lg (2 * slotCount slots) count n rows table
   filtered-graded j c h l a =
-      let u = f j c h (omega (arith, w .task .few)) .0 a in
-      rw (← length-terms ts) (on-chain w c (w .rowed c (u .0) (u .1)))
+      let u = f .allowed j c h (omega (arith, w .task .few)) .0 a in
+      on-chain w c (rowAt rows c) (f .rowed c (u .0) (u .1))
 
   -- ---- a consistent placement in the filter's table meets the claims
 
   module _ (p : List ℕ) (d : length p ≡ n) (z : Consistent lg net ends count rows n table (seat p)) where
-    cell : (j : ℕ) → j < n → (seat p j < count) × Marked marks (seat p j) × Admits lg ms net ends j (rowAt rows (seat p j))
-    cell j h = f j (seat p j) h (omega (arith, z .below j h, w .task .few)) .0 (z .allowed j h)
-
-    cell-at : (j : ℕ) → j < n → (seat p j < count) × Marked marks (seat p j)
-    cell-at j h = let u = cell j h in (u .0, u .1)
+    cell : (j : ℕ) → j < n
+        → (seat p j < count) × Marked marks (seat p j) × Admits lg ms net ends j (gradesOf lg ts (seat p j)) (rowAt rows (seat p j))
+    cell j h = f .allowed j (seat p j) h (omega (arith, z .below j h, w .task .few)) .0 (z .allowed j h)
 
     pair : (a b : ℕ) → a < n → b < n → AllMet lg (between net ends a b) (rowAt rows (seat p a)) (rowAt rows (seat p b))
     pair a b h k = dite (ℕ-discrete b a) (λ e. rw e (cell a h .2 .1)) (λ g. z .fits a b h k g .0)
 
     consistent-meets : Drawn (marked marks count) n p × HoldsAt B p
     consistent-meets = (
-      seats-drawn n p (marked marks count) d (λ j h. marked-mem marks count (seat p j) .1 (cell-at j h)),
-      (members-hold w (seat p) cell-at .0 (λ j h. cell j h .2 .0), links-hold w (seat p) cell-at .0 pair),
+      seats-drawn n p (marked marks count) d (λ j h. let u = cell j h in marked-mem marks count (seat p j) .1 (u .0, u .1)),
+      (
+        members-hold w (seat p) .0 (λ j h. cell j h .2 .0),
+        links-hold w (seat p) rows (λ j h. let u = cell j h in f .rowed (seat p j) (u .0) (u .1)) .0 pair,
+      ),
     )
 
   -- ---- and the other way round
@@ -68,11 +68,11 @@ module _ {lg : Logic} {ts slots ms ls marks : List ℕ} {count n : ℕ} {net end
 
     meets-consistent : Consistent lg net ends count rows n table (seat p)
     meets-consistent =
-        let pair = links-hold w (seat p) marks-at .1 (m .1) in
+        let pair = links-hold w (seat p) rows (λ j h. let u = marks-at j h in f .rowed (seat p j) (u .0) (u .1)) .1 (m .1) in
         record {
           below = λ j h. marks-at j h .0;
           allowed = λ j h. let u = marks-at j h in
-              f j (seat p j) h (omega (arith, u .0, w .task .few)) .1 (u .0, u .1, (members-hold w (seat p) marks-at .1 (m .0) j h, pair j j h h));
+              f .allowed j (seat p j) h (omega (arith, u .0, w .task .few)) .1 (u .0, u .1, (members-hold w (seat p) .1 (m .0) j h, pair j j h h));
           fits = λ j i h k _. (pair j i h k, pair i j k h);
         }
 

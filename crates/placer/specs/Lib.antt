@@ -1,4 +1,3 @@
 pub mod Walk
-pub mod Rows
 pub mod Seats
 pub mod Placing

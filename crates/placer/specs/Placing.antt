@@ -9,16 +9,16 @@ use Rattle.semantics.specs.Books.{Book, individuals}
 use Rattle.sections.specs.Terms.{termCount, termsOf, TermsRight}
 use Rattle.sections.specs.Claims.{MembershipsRight, LinksRight}
 use Rattle.sections.specs.Books.{bookOfSections}
+use Rattle.gradings.specs.Gradings.{grading}
 use Rattle.gradings.specs.declared.Logic.{Logic}
 use Rattle.slots.specs.Slots.{slotCount, SlotsOf}
 use Rattle.elimination.specs.Marks.{marked}
 use Rattle.placement.specs.Outcome.{placementAmong}
 use Rattle.placer.specs.Walk.{placed}
-use Rattle.placer.specs.Rows.{gradingOf}
 
 -- the book, but for its rules: no placement looks at them
 abbrev pub claimsBook : Logic → (terms ms ls : List ℕ) → Book
-claimsBook l ts ms ls = bookOfSections (gradingOf l ts) [] ms ls
+claimsBook l ts ms ls = bookOfSections (grading l (termsOf ts)) [] ms ls
 
 -- the sections are right, the slots are the quantified terms, and n is the number of individuals; candidates below `count` have a mark
 pub record Task (l : Logic) (terms slots ms ls marks : List ℕ) (count n : ℕ) : Type 0 where

@@ -14,8 +14,9 @@ use Rattle.chain.specs.Connectives.{through, within?}
 use Rattle.sections.specs.Terms.{quantifierOf}
 use Rattle.gradings.specs.Gradings.{connectivesOf}
 use Rattle.gradings.specs.declared.Logic.{Logic}
-use Rattle.grades.specs.Rows.{rowAt, entry}
+use Rattle.grades.specs.Rows.{entry}
 use Rattle.placement.specs.Outcome.{seat}
+use Rattle.network.specs.Rows.{rowAt}
 use Rattle.network.specs.Constraints.{constraintCount, constraintAt, AllMet}
 use Rattle.network.specs.Network.{between}
 use Rattle.domains.specs.Tables.{Allowed}

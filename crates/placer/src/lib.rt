@@ -4,41 +4,19 @@ ghost use mathlib.Core.Bool.{true};
 ghost use Prim.Native.Nat.{ℕ, _-_, _<_, _≤_};
 ghost use lib.ListN.{length, getD, take, drop};
 ghost use Rattle.chain.specs.Decisions.{Tells};
-ghost use Rattle.sections.specs.Terms.{termCount, TermsRight};
-ghost use Rattle.grades.specs.Rows.{rowAt};
+ghost use Rattle.network.specs.Rows.{rowAt};
 ghost use Rattle.network.specs.Network.{Wired};
 ghost use Rattle.domains.specs.Consistent.{Fits, Problem, Graded};
 ghost use Rattle.placer.specs.Walk.{placed};
-ghost use Rattle.placer.specs.Rows.{Rowed};
 ghost use Rattle.placer.specs.Seats.{walkOf, Setting, SeatedBelow, NextFit, Finds};
 ghost use Rattle.placer.specs.Placing.{Task, Places};
 use domains::in_vain;
 use domains::leap;
 use domains::note_all_gaps;
-use grades::put_row;
-use grades::row_at;
 use gradings::Logic;
 use network::all_met;
 use network::between;
-
-// ---- the rows of the marked candidates, 64 bytes for each
-
-// The rows are worked out once: the search tries a candidate many times.
-fn fill_rows(terms: &[u8], logic: Logic, marks: &[u8], count: usize, rows: &mut [u8])
-    requires { ⌜ TermsRight (now terms) ⌝ }
-    requires { ⌜ (termCount (now terms) ≤ 64) × (count ≤ 16384) × (count ≤ length (now marks)) × (1048576 ≤ length (now rows)) ⌝ }
-    ensures { λ _. ⌜ Rowed logic (now (terms .entry)) (now (marks .entry)) count (now (rows .exit)) ⌝ }
-{
-    let mut filled = 0;
-    while filled < count {
-        let c = filled;
-        filled += 1;
-        if marks[c] != 1 {
-            continue;
-        }
-        put_row(terms, logic, c, rows, c);
-    }
-}
+use network::row_at;
 
 // ---- one individual after another
 
@@ -47,23 +25,23 @@ fn compatible(
     logic: Logic,
     net: &[u8],
     ends: &[u16],
-    terms: usize,
+    columns: usize,
     rows: &[u8],
     j: usize,
     c: usize,
     i: usize,
     d: usize,
 ) -> bool
-    requires { ⌜ Wired logic terms (now net) (now ends) ⌝ }
-    requires { ⌜ (1048576 ≤ length (now rows)) × (j < 8) × (i < 8) × (c < 16384) × (d < 16384) ⌝ }
+    requires { ⌜ Wired logic columns (now net) (now ends) ⌝ }
+    requires { ⌜ (524288 ≤ length (now rows)) × (j < 8) × (i < 8) × (c < 16384) × (d < 16384) ⌝ }
     ensures { λ r. ⌜ Tells r (Fits logic (now (net .entry)) (now (ends .entry)) j i (rowAt (now (rows .entry)) c) (rowAt (now (rows .entry)) d)) ⌝ }
 {
     let first = row_at(rows, c);
     let second = row_at(rows, d);
-    if !all_met(logic, between(net, ends, j, i), first, second, terms) {
+    if !all_met(logic, between(net, ends, j, i), first, second, columns) {
         return false;
     }
-    all_met(logic, between(net, ends, i, j), second, first, terms)
+    all_met(logic, between(net, ends, i, j), second, first, columns)
 }
 
 // Is candidate `c` for individual `k` compatible with those of the individuals before it?
@@ -71,21 +49,21 @@ fn fits_seated(
     logic: Logic,
     net: &[u8],
     ends: &[u16],
-    terms: usize,
+    columns: usize,
     rows: &[u8],
     seats: &[u16],
     k: usize,
     c: usize,
 ) -> bool
-    requires { ⌜ Wired logic terms (now net) (now ends) ⌝ }
-    requires { ⌜ (1048576 ≤ length (now rows)) × (k < 8) × (k ≤ length (now seats)) × (c < 16384) × SeatedBelow (now seats) k ⌝ }
+    requires { ⌜ Wired logic columns (now net) (now ends) ⌝ }
+    requires { ⌜ (524288 ≤ length (now rows)) × (k < 8) × (k ≤ length (now seats)) × (c < 16384) × SeatedBelow (now seats) k ⌝ }
     ensures { λ r. ⌜ Tells r ((i : ℕ) → i < k
         → Fits logic (now (net .entry)) (now (ends .entry)) i k (rowAt (now (rows .entry)) (getD (now (seats .entry)) i 0)) (rowAt (now (rows .entry)) c)) ⌝ }
 {
     let mut i = 0;
     while i < k {
         let d = seats[i] as usize;
-        if !compatible(logic, net, ends, terms, rows, i, d, k, c) {
+        if !compatible(logic, net, ends, columns, rows, i, d, k, c) {
             return false;
         }
         i += 1;
@@ -99,7 +77,7 @@ fn next_fit(
     logic: Logic,
     net: &[u8],
     ends: &[u16],
-    terms: usize,
+    columns: usize,
     count: usize,
     individuals: usize,
     table: &[u8],
@@ -108,7 +86,7 @@ fn next_fit(
     k: usize,
     start: usize,
 ) -> usize
-    requires { ⌜ Setting logic terms (now net) (now ends) count individuals (now table) (now rows) ⌝ }
+    requires { ⌜ Setting logic columns (now net) (now ends) count individuals (now table) (now rows) ⌝ }
     requires { ⌜ (k < individuals) × (k ≤ length (now seats)) × SeatedBelow (now seats) k ⌝ }
     ensures { λ r. ⌜ NextFit logic (now (net .entry)) (now (ends .entry)) (now (rows .entry)) (now (table .entry)) count (now (seats .entry)) k start r ⌝ }
 {
@@ -119,7 +97,7 @@ fn next_fit(
             c += gap;
             continue;
         }
-        if fits_seated(logic, net, ends, terms, rows, seats, k, c) {
+        if fits_seated(logic, net, ends, columns, rows, seats, k, c) {
             return c;
         }
         c += 1;
@@ -132,7 +110,7 @@ fn place_from(
     logic: Logic,
     net: &[u8],
     ends: &[u16],
-    terms: usize,
+    columns: usize,
     count: usize,
     individuals: usize,
     table: &[u8],
@@ -140,7 +118,7 @@ fn place_from(
     seats: &mut [u16],
     k: usize,
 ) -> bool
-    requires { ⌜ Setting logic terms (now net) (now ends) count individuals (now table) (now rows) ⌝ }
+    requires { ⌜ Setting logic columns (now net) (now ends) count individuals (now table) (now rows) ⌝ }
     requires { ⌜ (k ≤ individuals) × (individuals ≤ length (now seats)) × SeatedBelow (now seats) k ⌝ }
     ensures { λ r. ⌜ take k (now (seats .exit)) ≡ take k (now (seats .entry)) ⌝ }
     ensures { λ r. ⌜ placed r (take (individuals - k) (drop k (now (seats .exit))))
@@ -155,7 +133,7 @@ fn place_from(
             logic,
             net,
             ends,
-            terms,
+            columns,
             count,
             individuals,
             table,
@@ -173,7 +151,7 @@ fn place_from(
             logic,
             net,
             ends,
-            terms,
+            columns,
             count,
             individuals,
             table,
@@ -192,14 +170,14 @@ fn place_at_once(
     logic: Logic,
     net: &[u8],
     ends: &[u16],
-    terms: usize,
+    columns: usize,
     count: usize,
     individuals: usize,
     table: &[u8],
     rows: &[u8],
     seats: &mut [u16],
 ) -> bool
-    requires { ⌜ Setting logic terms (now net) (now ends) count individuals (now table) (now rows) ⌝ }
+    requires { ⌜ Setting logic columns (now net) (now ends) count individuals (now table) (now rows) ⌝ }
     requires { ⌜ individuals ≤ length (now seats) ⌝ }
     ensures { λ r. ⌜ (r ≡ true
         → Finds logic (now (net .entry)) (now (ends .entry)) (now (rows .entry)) (now (table .entry)) count individuals true (now (seats .exit))) ⌝ }
@@ -210,7 +188,7 @@ fn place_at_once(
             logic,
             net,
             ends,
-            terms,
+            columns,
             count,
             individuals,
             table,
@@ -235,18 +213,18 @@ fn place_pruned(
     logic: Logic,
     net: &[u8],
     ends: &[u16],
-    terms: usize,
+    columns: usize,
     count: usize,
     individuals: usize,
     rows: &[u8],
     table: &mut [u8],
     seats: &mut [u16],
 ) -> bool
-    requires { ⌜ Setting logic terms (now net) (now ends) count individuals (now table) (now rows) ⌝ }
-    requires { ⌜ (individuals ≤ length (now seats)) × Graded logic terms count individuals (now rows) (now table) ⌝ }
+    requires { ⌜ Setting logic columns (now net) (now ends) count individuals (now table) (now rows) ⌝ }
+    requires { ⌜ (individuals ≤ length (now seats)) × Graded logic columns count individuals (now rows) (now table) ⌝ }
     ensures { λ r. ⌜ Finds logic (now (net .entry)) (now (ends .entry)) (now (rows .entry)) (now (table .entry)) count individuals r (now (seats .exit)) ⌝ }
 {
-    arcs::prune(logic, net, ends, terms, count, individuals, rows, table);
+    arcs::prune(logic, net, ends, columns, count, individuals, rows, table);
     if in_vain(table, count, individuals) {
         return false;
     }
@@ -254,7 +232,7 @@ fn place_pruned(
         logic,
         net,
         ends,
-        terms,
+        columns,
         count,
         individuals,
         table,
@@ -269,24 +247,24 @@ fn place_thinned(
     logic: Logic,
     net: &[u8],
     ends: &[u16],
-    terms: usize,
+    columns: usize,
     count: usize,
     individuals: usize,
     rows: &[u8],
     table: &mut [u8],
     seats: &mut [u16],
 ) -> bool
-    requires { ⌜ Problem logic terms (now net) (now ends) count individuals (now rows) ⌝ }
-    requires { ⌜ (131072 ≤ length (now table)) × (individuals ≤ length (now seats)) × Graded logic terms count individuals (now rows) (now table) ⌝ }
+    requires { ⌜ Problem logic columns (now net) (now ends) count individuals (now rows) ⌝ }
+    requires { ⌜ (131072 ≤ length (now table)) × (individuals ≤ length (now seats)) × Graded logic columns count individuals (now rows) (now table) ⌝ }
     ensures { λ r. ⌜ Finds logic (now (net .entry)) (now (ends .entry)) (now (rows .entry)) (now (table .entry)) count individuals r (now (seats .exit)) ⌝ }
 {
-    classes::thin(logic, net, ends, terms, count, individuals, rows, table);
+    classes::thin(logic, net, ends, columns, count, individuals, rows, table);
     note_all_gaps(table, count, individuals);
     if place_at_once(
         logic,
         net,
         ends,
-        terms,
+        columns,
         count,
         individuals,
         table,
@@ -299,7 +277,7 @@ fn place_thinned(
         logic,
         net,
         ends,
-        terms,
+        columns,
         count,
         individuals,
         rows,
@@ -326,19 +304,18 @@ fn place_in(
 ) -> bool
     requires { ⌜ Task logic (now terms) (now slots) (now memberships) (now links) (now marks) count individuals ⌝ }
     requires { ⌜ individuals ≤ length (now seats) ⌝ }
-    requires { ⌜ (4096 ≤ length (now net)) × (65 ≤ length (now ends)) × (getD (now ends) 0 0 ≡ 0) × (1048576 ≤ length (now rows))
+    requires { ⌜ (4096 ≤ length (now net)) × (65 ≤ length (now ends)) × (getD (now ends) 0 0 ≡ 0) × (524288 ≤ length (now rows))
         × (131072 ≤ length (now table)) × ((i : ℕ) → getD (now table) i 0 ≡ 0) ⌝ }
     ensures { λ r. ⌜ Places logic (now (terms .entry)) (now (memberships .entry)) (now (links .entry)) (now (marks .entry)) count individuals r (now (seats .exit)) ⌝ }
 {
     network::connect(slots, links, net, ends);
-    fill_rows(terms, logic, marks, count, rows);
-    let k = terms.len() / 3;
-    filter::fill_table(
+    filter::fill_tables(
         logic,
+        terms,
+        slots,
         memberships,
         net,
         ends,
-        k,
         marks,
         count,
         individuals,
@@ -348,7 +325,18 @@ fn place_in(
     if in_vain(table, count, individuals) {
         return false;
     }
-    place_thinned(logic, net, ends, k, count, individuals, rows, table, seats)
+    let columns = 2 * (slots.len() / 4);
+    place_thinned(
+        logic,
+        net,
+        ends,
+        columns,
+        count,
+        individuals,
+        rows,
+        table,
+        seats,
+    )
 }
 
 // The first placement of the individuals at marked candidates that meets every claim. Where there is none the answer is false, and what the
@@ -370,7 +358,7 @@ pub fn place(
 {
     let mut net = [0u8; 4096];
     let mut ends = [0u16; 65];
-    let mut rows = [0u8; 1048576];
+    let mut rows = [0u8; 524288];
     let mut table = [0u8; 131072];
     place_in(
         logic,

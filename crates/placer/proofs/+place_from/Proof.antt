@@ -22,11 +22,11 @@ abbrev μ : Measures 5 kinds.ps ℕ
 μ κs a = a .1 .1 .1 .1 .1 .0 - a .1 .1 .1 .1 .1 .1 .1 .1 .1 .0
 
 abbrev Inv-loop : lts.InvT-loop
-Inv-loop logic net ends terms count individuals table rows seats₀ k next₀ seats next =
+Inv-loop logic net ends columns count individuals table rows seats₀ k next₀ seats next =
     (length seats ≡ length seats₀) × Turn logic net ends rows table count individuals k (take k seats₀) seats next
 
 abbrev μ-loop : lts.MeasureT-loop
-μ-loop logic net ends terms count individuals table rows seats₀ k next₀ seats next = count - next
+μ-loop logic net ends columns count individuals table rows seats₀ k next₀ seats next = count - next
 
 -- at the measure m, where calls have a smaller one
 module _ (m : ℕ) where

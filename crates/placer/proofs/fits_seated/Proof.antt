@@ -5,18 +5,18 @@ use native.Mathlib.Omega.{arith}
 use lib.ListN.{getD}
 use borrow.Author.Count.{below-none, below-more}
 use borrow.Author.Needs.{needs}
-use Rattle.grades.specs.Rows.{rowAt}
+use Rattle.network.specs.Rows.{rowAt}
 use Rattle.domains.specs.Consistent.{Fits}
 use Rattle.chain.proofs.Decisions.{tells-yes, tells-no, told-yes, told-no}
 use Rattle.placer.proofs.fits_seated.Statement.{statement}
 use Rattle.placer.proofs.fits_seated.Tie as tie
 
 abbrev Inv-loop : tie.InvT-loop
-Inv-loop logic net ends terms rows seats k c i₀ i =
+Inv-loop logic net ends columns rows seats k c i₀ i =
     (i ≤ k) × ((x : ℕ) → x < i → Fits logic net ends x k (rowAt rows (getD seats x 0)) (rowAt rows c))
 
 abbrev μ-loop : tie.MeasureT-loop
-μ-loop logic net ends terms rows seats k c i₀ i = k - i
+μ-loop logic net ends columns rows seats k c i₀ i = k - i
 
 loop-holds : tie.Need-loop-holds Inv-loop μ-loop
 loop-holds c = (omega arith, below-none _)

@@ -11,11 +11,11 @@ use Rattle.placer.proofs.next_fit.Statement.{statement}
 use Rattle.placer.proofs.next_fit.Tie as tie
 
 abbrev Inv-loop : tie.InvT-loop
-Inv-loop logic net ends terms count individuals table rows seats k start c₀ c =
+Inv-loop logic net ends columns count individuals table rows seats k start c₀ c =
     (start ≤ c) × ((e : ℕ) → start ≤ e → e < c → ¬ FitsNext logic net ends rows table seats k e)
 
 abbrev μ-loop : tie.MeasureT-loop
-μ-loop logic net ends terms count individuals table rows seats k start c₀ c = count - c
+μ-loop logic net ends columns count individuals table rows seats k start c₀ c = count - c
 
 loop-holds : tie.Need-loop-holds Inv-loop μ-loop
 loop-holds c = (omega arith, λ e a b. absurd (omega arith))

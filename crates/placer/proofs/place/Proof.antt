@@ -15,7 +15,7 @@ slice-aggregate-place-in-2 : tie.Need-slice-aggregate-place-in-2
 slice-aggregate-place-in-2 c = search needs
 
 slice-aggregate-place-in-3 : tie.Need-slice-aggregate-place-in-3
-slice-aggregate-place-in-3 c = sym (length-replicate {A = ℕ} 1048576 0)
+slice-aggregate-place-in-3 c = sym (length-replicate {A = ℕ} 524288 0)
 
 slice-aggregate-place-in-4 : tie.Need-slice-aggregate-place-in-4
 slice-aggregate-place-in-4 c = search needs
@@ -23,7 +23,7 @@ slice-aggregate-place-in-4 c = search needs
 place-in-requires : tie.Need-place-in-requires
 place-in-requires c κs =
     let s = c .before .before .before .before .before .before .before .before .before .before .before in
-    (s .pre .0, (s .pre .1, (zeros-long 4096, zeros-long 65, zeros-at 65 0, zeros-long 1048576, zeros-long 131072, zeros-at 131072)))
+    (s .pre .0, (s .pre .1, (zeros-long 4096, zeros-long 65, zeros-at 65 0, zeros-long 524288, zeros-long 131072, zeros-at 131072)))
 
 same-length : tie.Need-same-length
 same-length c = c .before .before .before .before .before .before .place-in .kept .1 .1 .1 .1 .1 .1 .1 .1 .1 .1 .1 .1 .0

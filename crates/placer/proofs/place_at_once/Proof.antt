@@ -11,11 +11,11 @@ use Rattle.placer.proofs.place_at_once.Statement.{statement}
 use Rattle.placer.proofs.place_at_once.Tie as tie
 
 abbrev Inv-loop : tie.InvT-loop
-Inv-loop logic net ends terms count individuals table rows seats₀ k₀ seats k =
+Inv-loop logic net ends columns count individuals table rows seats₀ k₀ seats k =
     (length seats ≡ length seats₀) × AtOnce logic net ends rows table count individuals k seats
 
 abbrev μ-loop : tie.MeasureT-loop
-μ-loop logic net ends terms count individuals table rows seats₀ k₀ seats k = individuals - k
+μ-loop logic net ends columns count individuals table rows seats₀ k₀ seats k = individuals - k
 
 loop-holds : tie.Need-loop-holds Inv-loop μ-loop
 loop-holds c =

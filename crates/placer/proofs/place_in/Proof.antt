@@ -1,42 +1,56 @@
 -- `placer::place_in` meets its contract.
 -- Assumes nothing.
 use mathlib.Core.List.{List}
-use Prim.Native.Nat.{ℕ}
+use Prim.Native.Nat.{ℕ, _≤_, _*_}
 use native.Mathlib.Omega.{arith}
+use lib.ListN.{length}
 use borrow.Author.Needs.{needs}
-use Rattle.sections.specs.Terms.{termCount}
+use Rattle.slots.specs.Slots.{slotCount}
 use Rattle.slots.proofs.Slots.{slot-role}
 use Rattle.domains.specs.Consistent.{Problem}
-use Rattle.placer.proofs.Rows.{Prepared, problem}
+use Rattle.placer.proofs.Prepared.{Prepared, problem}
 use Rattle.placer.proofs.Placing.{filtered-graded, found-placement, vain-placed}
 use Rattle.placer.proofs.place_in.Statement.{statement}
 use Rattle.placer.proofs.place_in.Tie as tie
 
--- once the network is made and the rows are filled
-module _ (c : tie.After-fill-rows) where
-  abbrev connected : tie.After-connect
-  connected = c .before .before .before .before .before .before
-
+-- once the network is made
+module _ (c : tie.After-connect) where
   abbrev start : tie.Start
-  start = connected .before .before .before .before .before .before .before .before .before .before .before .before .before
+  start = c .before .before .before .before .before .before .before .before .before .before .before .before .before
 
   abbrev net : List ℕ
-  net = connected .connect .last .1 .1 .0
+  net = c .connect .last .1 .1 .0
 
   abbrev ends : List ℕ
-  ends = connected .connect .last .1 .1 .1 .0
-
-  abbrev rows : List ℕ
-  rows = c .fill-rows .last .1 .1 .1 .1 .0
+  ends = c .connect .last .1 .1 .1 .0
 
   prepared : let a = start .args in
-      Prepared (a .logic) (a .terms .now) (a .slots .now) (a .memberships .now) (a .links .now) (a .marks .now) (a .count) (a .individuals) net ends rows
-  prepared = record { task = start .pre .0; network = connected .connect .ensures; rowed = c .fill-rows .ensures }
+      Prepared (a .logic) (a .terms .now) (a .slots .now) (a .memberships .now) (a .links .now) (a .marks .now) (a .count) (a .individuals) net ends
+  prepared = record { task = start .pre .0; network = c .connect .ensures }
 
-  solvable : let a = start .args in Problem (a .logic) (termCount (a .terms .now)) net ends (a .count) (a .individuals) rows
-  solvable =
-      let y = start .pre .1 .1 in
-      problem prepared (omega (arith, connected .connect .kept .1 .1 .1 .0, y .1)) (omega (arith, c .fill-rows .kept .1 .1 .1 .1 .0, y .3))
+  solvable : (rows : List ℕ) → 524288 ≤ length rows
+      → let a = start .args in Problem (a .logic) (2 * slotCount (a .slots .now)) net ends (a .count) (a .individuals) rows
+  solvable rows = problem prepared rows (omega (arith, c .connect .kept .1 .1 .1 .0, start .pre .1 .1 .1))
+
+-- once the rows and the table are filled
+module _ (c : tie.After-fill-tables) where
+  abbrev connected : tie.After-connect
+  connected = c .before .before .before .before .before .before .before .before .before
+
+  abbrev entry : tie.Start
+  entry = start connected
+
+  abbrev rows : List ℕ
+  rows = c .fill-tables .last .1 .1 .1 .1 .1 .1 .1 .1 .1 .0
+
+  abbrev table : List ℕ
+  table = c .fill-tables .last .1 .1 .1 .1 .1 .1 .1 .1 .1 .1 .0
+
+  rows-long : 524288 ≤ length rows
+  rows-long = omega (arith, c .fill-tables .kept .1 .1 .1 .1 .1 .1 .1 .1 .1 .0, entry .pre .1 .1 .3)
+
+  table-long : 131072 ≤ length table
+  table-long = omega (arith, c .fill-tables .kept .1 .1 .1 .1 .1 .1 .1 .1 .1 .1 .0, entry .pre .1 .1 .4)
 
 connect-requires : tie.Need-connect-requires
 connect-requires c κs =
@@ -47,20 +61,19 @@ connect-requires c κs =
       (λ i l. let h = t .links-right i l in (h .0, h .1 .0, h .1 .1 .0), y .0, y .1, y .2),
     )
 
-fill-rows-requires : tie.Need-fill-rows-requires
-fill-rows-requires c κs = search needs
-
-fill-table-requires : tie.Need-fill-table-requires
-fill-table-requires c κs =
-    let e = c .before .before .before .before .before .before in
-    let y = start e .pre .1 .1 in
-    (start e .pre .0 .memberships-right, (solvable e, (start e .pre .0 .marks-long, y .4, y .5)))
+fill-tables-requires : tie.Need-fill-tables-requires
+fill-tables-requires c κs =
+    let e = c .before .before .before .before .before .before .before .before in
+    let t = start e .pre .0 in
+    let y = start e .pre .1 .1 in (
+      record { terms-right = t .terms-right; few-terms = t .few-terms; slots-are = t .slots-are; memberships-right = t .memberships-right },
+      (solvable e _ (y .3), (t .marks-long, y .4, y .5)),
+    )
 
 in-vain-requires : tie.Need-in-vain-requires
 in-vain-requires c κs =
-    let e = c .before .before .before .before .before .before .before .before .before .before in
-    let f = c .before .before .before .fill-table in
-    (start e .pre .0 .few, solvable e .individuals-few, omega (arith, f .kept .1 .1 .1 .1 .1 .1 .1 .1 .1 .0, start e .pre .1 .1 .4))
+    let e = c .before .before .before .before .before in
+    (entry e .pre .0 .few, solvable (connected e) (rows e) (rows-long e) .individuals-few, table-long e)
 
 same-length : tie.Need-same-length
 same-length c = search needs
@@ -76,21 +89,17 @@ same-length-4 c = search needs
 
 returns : tie.Need-returns
 returns c =
-    let w = prepared (c .before .before .before .before .before .before .before .before .before .before .before .before) in
-    let f = c .before .before .before .before .before .fill-table in
-    vain-placed w (f .last .1 .1 .1 .1 .1 .1 .1 .1 .1 .0) (f .ensures) _ (c .before .in-vain .ensures .0 (c .if1 .taken))
+    let e = c .before .before .before .before .before .before .before in
+    vain-placed (prepared (connected e)) (rows e) (table e) (e .fill-tables .ensures) _ (c .before .in-vain .ensures .0 (c .if1 .taken))
+
+mul-columns : tie.Need-mul-columns
+mul-columns c = omega (arith, c .before .before .before .before .before .before .before .before .before .before .before .before .before .before .before .before .before .before .before .before .before .before .before .before .before .before .before .before .before .pre .0 .few-slots)
 
 place-thinned-requires : tie.Need-place-thinned-requires
 place-thinned-requires c κs =
-    let e = c .before .before .before .before .before .before .before .before .before .before .before .before .before .before .before .before .before in
-    let f = c .before .before .before .before .before .before .before .before .before .before .fill-table in (
-      solvable e,
-      (
-        omega (arith, f .kept .1 .1 .1 .1 .1 .1 .1 .1 .1 .0, start e .pre .1 .1 .4),
-        start e .pre .1 .0,
-        filtered-graded (prepared e) (f .last .1 .1 .1 .1 .1 .1 .1 .1 .1 .0) (f .ensures),
-      ),
-    )
+    let e = c .before .before .before .before .before .before .before .before .before .before .before .before in
+    let s = entry e in
+    (solvable (connected e) (rows e) (rows-long e), (table-long e, s .pre .1 .0, filtered-graded (prepared (connected e)) (rows e) (table e) (e .fill-tables .ensures)))
 
 same-length-5 : tie.Need-same-length-5
 same-length-5 c = search needs
@@ -109,24 +118,23 @@ same-length-9 c = search needs
 
 returns-2 : tie.Need-returns-2
 returns-2 c =
-    let w = prepared (c .before .before .before .before .before .before .before .before .before .before .before .before .before .before .before .before .before .before .before .before .before .before) in
-    let f = c .before .before .before .before .before .before .before .before .before .before .before .before .before .before .before .fill-table in
+    let e = c .before .before .before .before .before .before .before .before .before .before .before .before .before .before .before .before .before in
     let p = c .before .before .before .before .place-thinned in
-    found-placement w (f .last .1 .1 .1 .1 .1 .1 .1 .1 .1 .0) (f .ensures) (p .result) _ (p .ensures)
+    found-placement (prepared (connected e)) (rows e) (table e) (e .fill-tables .ensures) (p .result) _ (p .ensures)
 
 pub place-in-spec : {M : Type 1} → statement M
 place-in-spec =
     tie.close
     (tie.spec
     connect-requires
-    fill-rows-requires
-    fill-table-requires
+    fill-tables-requires
     in-vain-requires
     same-length
     same-length-2
     same-length-3
     same-length-4
     returns
+    mul-columns
     place-thinned-requires
     same-length-5
     same-length-6
