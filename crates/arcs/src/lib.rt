@@ -149,7 +149,8 @@ fn make_box(
 ) -> usize
     requires { ⌜ AllRight logic columns (now forth) × AllRight logic columns (now back) × (columns ≤ length (now row)) × OnChain logic columns (now row) ⌝ }
     requires { ⌜ (constraintCount (now forth) ≤ 64) × (constraintCount (now back) ≤ 64) × (384 ≤ length (now bounds)) ⌝ }
-    ensures { λ r. ⌜ Narrowed logic columns (FitsBy logic (now (forth .entry)) (now (back .entry)) (now (row .entry))) (now (bounds .entry)) 0 (now (bounds .exit)) r ⌝ }
+    ensures { λ r. ⌜ Narrowed logic columns (FitsBy logic (now (forth .entry)) (now (back .entry)) (now (row .entry))) (now (bounds .entry)) 0
+        (now (bounds .exit)) r ⌝ }
     ensures { λ r. ⌜ r ≤ 128 ⌝ }
 {
     let m = bound_targets(logic, forth, columns, row, bounds, 0);
@@ -240,9 +241,11 @@ fn support(
     c: usize,
     hint: usize,
 ) -> usize
-    requires { ⌜ AllRight logic columns (now forth) × AllRight logic columns (now back) × (constraintCount (now forth) ≤ 64) × (constraintCount (now back) ≤ 64) × (columns ≤ 32) ⌝ }
+    requires { ⌜ AllRight logic columns (now forth) × AllRight logic columns (now back) × (constraintCount (now forth) ≤ 64)
+        × (constraintCount (now back) ≤ 64) × (columns ≤ 32) ⌝ }
     requires { ⌜ (i < individuals) × (individuals ≤ 8) × (c < count) × (hint ≤ count) × (count ≤ 16384) × OnChain logic columns (rowAt (now rows) c) ⌝ }
-    requires { ⌜ (131072 ≤ length (now table)) × (524288 ≤ length (now rows)) × (384 ≤ length (now bounds)) × Gaps (now table) individuals count × Graded logic columns count individuals (now rows) (now table) ⌝ }
+    requires { ⌜ (131072 ≤ length (now table)) × (524288 ≤ length (now rows)) × (384 ≤ length (now bounds)) × Gaps (now table) individuals count
+        × Graded logic columns count individuals (now rows) (now table) ⌝ }
     ensures { λ r. ⌜ Tried logic (now (forth .entry)) (now (back .entry)) count (now (rows .entry)) (now (table .entry)) i c r ⌝ }
 {
     let m = make_box(logic, forth, back, columns, row_at(rows, c), bounds);
@@ -266,9 +269,11 @@ fn revise(
     j: usize,
     i: usize,
 ) -> bool
-    requires { ⌜ AllRight logic columns (now forth) × AllRight logic columns (now back) × (constraintCount (now forth) ≤ 64) × (constraintCount (now back) ≤ 64) × (columns ≤ 32) ⌝ }
+    requires { ⌜ AllRight logic columns (now forth) × AllRight logic columns (now back) × (constraintCount (now forth) ≤ 64)
+        × (constraintCount (now back) ≤ 64) × (columns ≤ 32) ⌝ }
     requires { ⌜ (j < individuals) × (i < individuals) × (individuals ≤ 8) × (¬ (i ≡ j)) × (count ≤ 16384) ⌝ }
-    requires { ⌜ (131072 ≤ length (now table)) × (524288 ≤ length (now rows)) × (384 ≤ length (now bounds)) × Gaps (now table) individuals count × Graded logic columns count individuals (now rows) (now table) ⌝ }
+    requires { ⌜ (131072 ≤ length (now table)) × (524288 ≤ length (now rows)) × (384 ≤ length (now bounds)) × Gaps (now table) individuals count
+        × Graded logic columns count individuals (now rows) (now table) ⌝ }
     ensures { λ r. ⌜ RevisedBy logic (now (forth .entry)) (now (back .entry)) count (now (rows .entry)) j i count r (now (table .entry)) (now (table .exit)) ⌝ }
     ensures { λ _. ⌜ Gaps (now (table .exit)) individuals count ⌝ }
 {

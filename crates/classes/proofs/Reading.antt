@@ -114,7 +114,8 @@ module _ (lg : Logic) (s a b v : List ℕ) where
 
 -- both are compatible with the same row of another individual
 pub same-fits : (lg : Logic) (m : ℕ) (net ends : List ℕ) (count n : ℕ) (rows : List ℕ) → Problem lg m net ends count n rows
-    → (j i : ℕ) → j < 8 → i < 8 → ¬ (i ≡ j) → (seen : List ℕ) → Read net ends j 8 seen → (a b : List ℕ) → ((t : ℕ) → t < 32 → getD seen t 0 ≡ 1 → getD a t 0 ≡ getD b t 0)
+    → (j i : ℕ) → j < 8 → i < 8 → ¬ (i ≡ j) → (seen : List ℕ) → Read net ends j 8 seen → (a b : List ℕ)
+    → ((t : ℕ) → t < 32 → getD seen t 0 ≡ 1 → getD a t 0 ≡ getD b t 0)
     → (v : List ℕ) → Fits lg net ends j i a v → Fits lg net ends j i b v
 same-fits lg m net ends count n rows p j i lj li apart seen read a b same v f = (
   met-source lg (between net ends j i) a b v

@@ -32,44 +32,47 @@ use Rattle.filter.specs.Filter.{Task, ClaimsBelow, MembershipBy, Members
 -- ---- membership claims
 
 -- a claim about individual j, by the numbers that code reads for its individual and its term
-pub membership-told : (r : Bool) (ms : List ℕ) (j : ℕ) (f : ℕ → ℕ) (i who term : ℕ) → who ≡ membershipAt ms i .individual → who ≡ j → term ≡ membershipAt ms i .term
-    → Tells r (Claimed (membershipAt ms i .sense) (membershipAt ms i .grade) (f term)) → Tells r (MembershipBy ms j f i)
+pub membership-told : (r : Bool) (ms : List ℕ) (j : ℕ) (f : ℕ → ℕ) (i who term : ℕ) → who ≡ membershipAt ms i .individual → who ≡ j
+    → term ≡ membershipAt ms i .term → Tells r (Claimed (membershipAt ms i .sense) (membershipAt ms i .grade) (f term)) → Tells r (MembershipBy ms j f i)
 membership-told r ms j f i who term a b e t = tells-map r (λ h _. subst Met e h) (λ g. subst Met (sym e) (g (sym a ∙ b))) t
   where
     Met : ℕ → Type 0
     Met x = Claimed (membershipAt ms i .sense) (membershipAt ms i .grade) (f x)
 
 -- where they are about terms below n, they ask the same of grades that are the same there
-memberships-same : (ms : List ℕ) (n : ℕ) → ClaimsBelow ms n → (f g : ℕ → ℕ) → ((i : ℕ) → i < n → f i ≡ g i) → (j : ℕ) → MembershipsBy ms j f → MembershipsBy ms j g
+memberships-same : (ms : List ℕ) (n : ℕ) → ClaimsBelow ms n → (f g : ℕ → ℕ) → ((i : ℕ) → i < n → f i ≡ g i) → (j : ℕ) → MembershipsBy ms j f
+    → MembershipsBy ms j g
 memberships-same ms n below f g same j h i l e = rw (← same (membershipAt ms i .term) (below i l)) (h i l e)
 
 -- ---- what the table says of one candidate, individual by individual
 
-module _ (lg : Logic) (ms net ends : List ℕ) where
-  module _ (f : ℕ → ℕ) (row : List ℕ) (c : ℕ) (old : List ℕ) where
-    pub column-start : Column lg ms net ends f row 0 c old old
-    column-start = record { here = λ j h. absurd (omega arith); elsewhere = λ j d l n. refl }
+module _ {lg : Logic} {ms net ends : List ℕ} {f : ℕ → ℕ} {row : List ℕ} {c : ℕ} {old : List ℕ} where
+  pub column-start : Column lg ms net ends f row 0 c old old
+  column-start = record { here = λ j h. absurd (omega arith); elsewhere = λ j d l n. refl }
 
-    pub column-turn : c < 16384 → (k : ℕ) (u : List ℕ) (b : ℕ) → 16384 * k + c < length u → (b ≡ 1) ↔ Admits lg ms net ends k f row
-        → Column lg ms net ends f row k c old u → Column lg ms net ends f row (k + 1) c old (set u (16384 * k + c) b)
-    column-turn small k u b l a w = record {
-      here = λ j h. ⊎-elim
-          (λ e. subst (λ (z : ℕ). Allowed (set u (16384 * k + c) b) z c ↔ Admits lg ms net ends z f row) (sym e)
-          (subst (λ (y : ℕ). (y ≡ 1) ↔ Admits lg ms net ends k f row) (sym (getD-set-same u (16384 * k + c) b 0 l)) a))
-          (λ g. subst (λ (y : ℕ). (y ≡ 1) ↔ Admits lg ms net ends j f row) (sym (getD-set-other u (16384 * k + c) (16384 * j + c) b 0 (λ e. omega arith))) (w .here j g))
-          (below-cases k j (rw (← add-one k) h));
-      elsewhere = λ j d m n. getD-set-other u (16384 * k + c) (16384 * j + d) b 0 (λ e. n (omega arith)) ∙ w .elsewhere j d m n;
-    }
+  pub column-turn : {k b : ℕ} {u : List ℕ} → c < 16384 → 16384 * k + c < length u → (b ≡ 1) ↔ Admits lg ms net ends k f row
+      → Column lg ms net ends f row k c old u → Column lg ms net ends f row (k + 1) c old (set u (16384 * k + c) b)
+  column-turn {k} {b} {u} small l a w = record {
+    here = λ j h. ⊎-elim
+        (λ e. subst (λ (z : ℕ). Allowed (set u at b) z c ↔ Admits lg ms net ends z f row) (sym e)
+        (subst (λ (y : ℕ). (y ≡ 1) ↔ Admits lg ms net ends k f row) (sym (getD-set-same u at b 0 l)) a))
+        (λ g. subst (λ (y : ℕ). (y ≡ 1) ↔ Admits lg ms net ends j f row) (sym (getD-set-other u at (16384 * j + c) b 0 (λ e. omega arith))) (w .here j g))
+        (below-cases k j (rw (← add-one k) h));
+    elsewhere = λ j d m n. getD-set-other u at (16384 * j + d) b 0 (λ e. n (omega arith)) ∙ w .elsewhere j d m n;
+  }
+    where
+      at : ℕ
+      at = 16384 * k + c
 
-    pub column-same : (n : ℕ) → ClaimsBelow ms n → (g : ℕ → ℕ) → ((i : ℕ) → i < n → f i ≡ g i) → (k : ℕ) (new : List ℕ)
-        → Column lg ms net ends f row k c old new → Column lg ms net ends g row k c old new
-    column-same n below g same k new w = record {
-      here = λ j h. let u = w .here j h in (
-        λ e. let v = u .0 e in (memberships-same ms n below f g same j (v .0), v .1),
-        λ v. u .1 (memberships-same ms n below g f (λ i l. sym (same i l)) j (v .0), v .1),
-      );
-      elsewhere = w .elsewhere;
-    }
+  column-same : {g : ℕ → ℕ} {k : ℕ} {new : List ℕ} (n : ℕ) → ClaimsBelow ms n → ((i : ℕ) → i < n → f i ≡ g i) → Column lg ms net ends f row k c old new
+      → Column lg ms net ends g row k c old new
+  column-same {g} n below same w = record {
+    here = λ j h. let u = w .here j h in (
+      λ e. let v = u .0 e in (memberships-same ms n below f g same j (v .0), v .1),
+      λ v. u .1 (memberships-same ms n below g f (λ i l. sym (same i l)) j (v .0), v .1),
+    );
+    elsewhere = w .elsewhere;
+  }
 
 -- ---- the sections, by what is asked of them
 
@@ -85,13 +88,13 @@ module _ {lg : Logic} {ts slots ms : List ℕ} (w : Task lg ts slots ms) where
   claims-within n l i h = omega (arith, w .memberships-right i h .1 .0)
 
   -- candidate c is entered by its row of all grades
-  pub entered-by : (net ends : List ℕ) (c : ℕ) (grades : List ℕ) → HasGrades (grading lg (termsOf ts)) c grades → (n : ℕ) (rows rows' table table' : List ℕ)
-      → take (32 * c) rows' ≡ take (32 * c) rows → SlotRow slots (entry grades) (rowAt rows' c) → (row : List ℕ) → row ≡ rowAt rows' c
+  pub entered-by : {net ends : List ℕ} {n c : ℕ} {rows rows' table table' row : List ℕ} (grades : List ℕ) → HasGrades (grading lg (termsOf ts)) c grades
+      → take (32 * c) rows' ≡ take (32 * c) rows → SlotRow slots (entry grades) (rowAt rows' c) → row ≡ rowAt rows' c
       → Column lg ms net ends (entry grades) row n c table table' → Entered lg ts slots ms net ends n c rows rows' table table'
-  entered-by net ends c grades are n rows rows' table table' before here row at column = record {
+  entered-by {net} {ends} {n} {c} {rows} {rows'} {table} {table'} {row} grades are before here at column = record {
     before = before;
     row = slot-row-same slots (entry grades) m (gradesOf lg ts c) (rowAt rows' c) (slots-below (termsOf ts) ordered slots (w .slots-are)) are here;
-    column = column-same lg ms net ends (entry grades) (rowAt rows' c) c table m (claims-within m (omega (arith, length-terms ts))) (gradesOf lg ts c) are n table'
+    column = column-same m (claims-within m (omega (arith, length-terms ts))) are
         (subst (λ (v : List ℕ). Column lg ms net ends (entry grades) v n c table table') at column);
   }
     where
@@ -100,26 +103,27 @@ module _ {lg : Logic} {ts slots ms : List ℕ} (w : Task lg ts slots ms) where
 
 -- ---- candidate by candidate
 
-module _ (lg : Logic) (ts slots ms net ends marks : List ℕ) (n : ℕ) where
-  pub filtered-start : (rows table : List ℕ) → ((i : ℕ) → getD table i 0 ≡ 0) → Filtered lg ts slots ms net ends marks n 0 rows table
-  filtered-start rows table z = record {
+module _ {lg : Logic} {ts slots ms net ends marks : List ℕ} {n : ℕ} where
+  pub filtered-start : {rows table : List ℕ} → ((i : ℕ) → getD table i 0 ≡ 0) → Filtered lg ts slots ms net ends marks n 0 rows table
+  filtered-start z = record {
     rowed = λ c h. absurd (omega arith);
     allowed = λ j c h l. (λ e. absurd (omega (arith, z (16384 * j + c))), λ u. absurd (omega (arith, u .0)));
   }
 
-  module _ (c : ℕ) (rows table : List ℕ) (f : Filtered lg ts slots ms net ends marks n c rows table) where
+  module _ {c : ℕ} {rows table : List ℕ} (f : Filtered lg ts slots ms net ends marks n c rows table) where
     pub filtered-off : ¬ Marked marks c → Filtered lg ts slots ms net ends marks n (c + 1) rows table
     filtered-off m = record {
       rowed = λ d h k. ⊎-elim (λ e. absurd (m (subst (Marked marks) e k))) (λ g. f .rowed d g k) (below-cases c d (rw (← add-one c) h));
       allowed = λ j d h l. (
         λ e. let u = f .allowed j d h l .0 e in (omega (arith, u .0), u .1, u .2),
-        λ u. ⊎-elim (λ e. absurd (m (subst (Marked marks) e (u .1)))) (λ g. f .allowed j d h l .1 (g, u .1, u .2)) (below-cases c d (rw (← add-one c) (u .0))),
+        λ u. ⊎-elim (λ e. absurd (m (subst (Marked marks) e (u .1)))) (λ g. f .allowed j d h l .1 (g, u .1, u .2))
+            (below-cases c d (rw (← add-one c) (u .0))),
       );
     }
 
-    pub filtered-on : (rows' table' : List ℕ) → Marked marks c → Entered lg ts slots ms net ends n c rows rows' table table'
+    pub filtered-on : {rows' table' : List ℕ} → Marked marks c → Entered lg ts slots ms net ends n c rows rows' table table'
         → Filtered lg ts slots ms net ends marks n (c + 1) rows' table'
-    filtered-on rows' table' m w = record {
+    filtered-on {rows'} {table'} m w = record {
       rowed = each-block-more 32 c rows rows' (w .before) (λ d v. Marked marks d → SlotRow slots (gradesOf lg ts d) v) (f .rowed) (λ _. w .row);
       allowed = λ j d h l. (λ e. into j d h l e (ℕ-discrete d c), λ u. back j d h l u (ℕ-discrete d c));
     }

@@ -66,7 +66,8 @@ fn admitted(
     requires { ⌜ ClaimsBelow (now memberships) (length (now grades)) ⌝ }
     requires { ⌜ Wired logic columns (now net) (now ends) ⌝ }
     requires { ⌜ (j < 8) × (columns ≤ length (now row)) ⌝ }
-    ensures { λ r. ⌜ (r ≡ 1) ↔ Admits logic (now (memberships .entry)) (now (net .entry)) (now (ends .entry)) j (entry (now (grades .entry))) (now (row .entry)) ⌝ }
+    ensures { λ r. ⌜ (r ≡ 1) ↔ Admits logic (now (memberships .entry)) (now (net .entry)) (now (ends .entry)) j (entry (now (grades .entry)))
+        (now (row .entry)) ⌝ }
 {
     if !memberships_met(memberships, j, grades) {
         return 0;
@@ -95,8 +96,8 @@ fn allow_row(
     requires { ⌜ ClaimsBelow (now memberships) (length (now grades)) ⌝ }
     requires { ⌜ Wired logic columns (now net) (now ends) ⌝ }
     requires { ⌜ (individuals ≤ 8) × (columns ≤ length (now row)) × (c < 16384) × (131072 ≤ length (now table)) ⌝ }
-    ensures { λ _. ⌜ Column logic (now (memberships .entry)) (now (net .entry)) (now (ends .entry)) (entry (now (grades .entry))) (now (row .entry)) individuals c
-        (now (table .entry)) (now (table .exit)) ⌝ }
+    ensures { λ _. ⌜ Column logic (now (memberships .entry)) (now (net .entry)) (now (ends .entry)) (entry (now (grades .entry))) (now (row .entry))
+        individuals c (now (table .entry)) (now (table .exit)) ⌝ }
 {
     let mut j = 0;
     while j < individuals {
@@ -160,8 +161,8 @@ pub fn fill_tables(
     requires { ⌜ Task logic (now terms) (now slots) (now memberships) ⌝ }
     requires { ⌜ Problem logic (2 * slotCount (now slots)) (now net) (now ends) count individuals (now rows) ⌝ }
     requires { ⌜ (count ≤ length (now marks)) × (131072 ≤ length (now table)) × ((i : ℕ) → getD (now table) i 0 ≡ 0) ⌝ }
-    ensures { λ _. ⌜ Filtered logic (now (terms .entry)) (now (slots .entry)) (now (memberships .entry)) (now (net .entry)) (now (ends .entry)) (now (marks .entry))
-        individuals count (now (rows .exit)) (now (table .exit)) ⌝ }
+    ensures { λ _. ⌜ Filtered logic (now (terms .entry)) (now (slots .entry)) (now (memberships .entry)) (now (net .entry)) (now (ends .entry))
+        (now (marks .entry)) individuals count (now (rows .exit)) (now (table .exit)) ⌝ }
 {
     let mut entered = 0;
     while entered < count {

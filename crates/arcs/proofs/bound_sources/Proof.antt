@@ -33,8 +33,11 @@ bound-source-requires : tie.Need-bound-source-requires Inv-loop μ-loop
 bound-source-requires c κs =
     let s = c .before .before .before .before .before .before in
     let a = s .args in
-    let l = c .before .before .loop in
-    (subst (λ (k : Constraint). Right (a .logic) (a .columns) k) (sym (c .constraint-at .ensures)) (s .pre .0 (l .y) (omega (arith, c .before .loop-test .taken))), s .pre .1)
+    let l = c .before .before .loop in (
+      subst (λ (k : Constraint). Right (a .logic) (a .columns) k) (sym (c .constraint-at .ensures)) (s .pre .0 (l .y)
+          (omega (arith, c .before .loop-test .taken))),
+      s .pre .1,
+    )
 
 put-bound-requires : tie.Need-put-bound-requires Inv-loop μ-loop
 put-bound-requires c κs =
@@ -61,7 +64,8 @@ loop-again c =
       omega (arith, t .ensures .1, l .inv .2),
       narrowed-more (a .logic) (a .columns) (λ z v. Met (a .logic) (constraintAt (a .s .now) z) v (a .target .now)) (l .y)
           (b .result) (a .bounds .now) (a .start) (l .bounds) (l .m) _ (t .result)
-          (subst (λ (k : Constraint). Asks (a .logic) (a .columns) (λ v. Met (a .logic) k v (a .target .now)) (b .result)) (c .before .before .before .before .before .constraint-at .ensures) (b .ensures))
+          (subst (λ (k : Constraint). Asks (a .logic) (a .columns) (λ v. Met (a .logic) k v (a .target .now)) (b .result))
+          (c .before .before .before .before .before .constraint-at .ensures) (b .ensures))
           (l .inv .3) (t .ensures .0),
     )
 
@@ -73,8 +77,11 @@ returns c =
     let s = c .before .before .before .before .before in
     let a = s .args in
     let l = c .before .loop in
-    let e : l .y ≡ constraintCount (a .s .now) = omega (arith, l .inv .1, c .loop-test .left) in
-    (subst (λ (x : ℕ). Narrowed (a .logic) (a .columns) (λ v. (z : ℕ) → z < x → Met (a .logic) (constraintAt (a .s .now) z) v (a .target .now)) (a .bounds .now) (a .start) (l .bounds) (l .m)) e (l .inv .3), omega (arith, l .inv .2))
+    let e : l .y ≡ constraintCount (a .s .now) = omega (arith, l .inv .1, c .loop-test .left) in (
+      subst (λ (x : ℕ). Narrowed (a .logic) (a .columns) (λ v. (z : ℕ) → z < x → Met (a .logic) (constraintAt (a .s .now) z) v (a .target .now))
+          (a .bounds .now) (a .start) (l .bounds) (l .m)) e (l .inv .3),
+      omega (arith, l .inv .2),
+    )
 
 pub bound-sources-spec : {M : Type 1} → statement M
 bound-sources-spec =

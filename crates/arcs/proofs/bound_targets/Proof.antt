@@ -33,8 +33,12 @@ bound-target-requires : tie.Need-bound-target-requires Inv-loop μ-loop
 bound-target-requires c κs =
     let s = c .before .before .before .before .before .before in
     let a = s .args in
-    let l = c .before .before .loop in
-    (subst (λ (k : Constraint). Right (a .logic) (a .columns) k) (sym (c .constraint-at .ensures)) (s .pre .0 (l .y) (omega (arith, c .before .loop-test .taken))), s .pre .1, s .pre .2)
+    let l = c .before .before .loop in (
+      subst (λ (k : Constraint). Right (a .logic) (a .columns) k) (sym (c .constraint-at .ensures)) (s .pre .0 (l .y)
+          (omega (arith, c .before .loop-test .taken))),
+      s .pre .1,
+      s .pre .2,
+    )
 
 put-bound-requires : tie.Need-put-bound-requires Inv-loop μ-loop
 put-bound-requires c κs =
@@ -61,7 +65,8 @@ loop-again c =
       omega (arith, t .ensures .1, l .inv .2),
       narrowed-more (a .logic) (a .columns) (λ z v. Met (a .logic) (constraintAt (a .s .now) z) (a .source .now) v) (l .y)
           (b .result) (a .bounds .now) (a .start) (l .bounds) (l .m) _ (t .result)
-          (subst (λ (k : Constraint). Asks (a .logic) (a .columns) (Met (a .logic) k (a .source .now)) (b .result)) (c .before .before .before .before .before .constraint-at .ensures) (b .ensures))
+          (subst (λ (k : Constraint). Asks (a .logic) (a .columns) (Met (a .logic) k (a .source .now)) (b .result))
+          (c .before .before .before .before .before .constraint-at .ensures) (b .ensures))
           (l .inv .3) (t .ensures .0),
     )
 
@@ -73,8 +78,11 @@ returns c =
     let s = c .before .before .before .before .before in
     let a = s .args in
     let l = c .before .loop in
-    let e : l .y ≡ constraintCount (a .s .now) = omega (arith, l .inv .1, c .loop-test .left) in
-    (subst (λ (x : ℕ). Narrowed (a .logic) (a .columns) (λ v. (z : ℕ) → z < x → Met (a .logic) (constraintAt (a .s .now) z) (a .source .now) v) (a .bounds .now) (a .start) (l .bounds) (l .m)) e (l .inv .3), omega (arith, l .inv .2))
+    let e : l .y ≡ constraintCount (a .s .now) = omega (arith, l .inv .1, c .loop-test .left) in (
+      subst (λ (x : ℕ). Narrowed (a .logic) (a .columns) (λ v. (z : ℕ) → z < x → Met (a .logic) (constraintAt (a .s .now) z) (a .source .now) v)
+          (a .bounds .now) (a .start) (l .bounds) (l .m)) e (l .inv .3),
+      omega (arith, l .inv .2),
+    )
 
 pub bound-targets-spec : {M : Type 1} → statement M
 bound-targets-spec =

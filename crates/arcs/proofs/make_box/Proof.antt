@@ -27,8 +27,10 @@ returns c =
     let s = c .before .before .before .before .before .before .before .before .before .before .before .before in
     let a = s .args in
     let t = c .before .before .before .before .before .before .bound-targets in
-    let u = c .before .before .bound-sources in
-    (narrowed-then (a .logic) (a .columns) _ _ (a .bounds .now) 0 _ (t .result) _ (u .result) (t .ensures .0) (u .ensures .0), omega (arith, s .pre .1, t .ensures .1, u .ensures .1))
+    let u = c .before .before .bound-sources in (
+      narrowed-then (a .logic) (a .columns) _ _ (a .bounds .now) 0 _ (t .result) _ (u .result) (t .ensures .0) (u .ensures .0),
+      omega (arith, s .pre .1, t .ensures .1, u .ensures .1),
+    )
 
 pub make-box-spec : {M : Type 1} → statement M
 make-box-spec =

@@ -31,8 +31,17 @@ pass-requires : tie.Need-pass-requires Inv-loop μ-loop
 pass-requires c κs =
     let s = c .before .before .before .before .before .before .before in
     let a = s .args in
-    let l = c .before .before .loop in
-    (s .pre .0, ((omega (arith, l .inv .0, s .pre .1 .0), omega (arith, l .inv .1)), (l .inv .2, graded-fewer (a .logic) (a .columns) (a .count) (a .individuals) (a .rows .now) (a .table .now) (l .table) (l .inv .3 .fewer) (s .pre .1 .1 .1))))
+    let l = c .before .before .loop in (
+      s .pre .0,
+      (
+        (omega (arith, l .inv .0, s .pre .1 .0), omega (arith, l .inv .1)),
+        (
+          l .inv .2,
+          graded-fewer (a .logic) (a .columns) (a .count)
+              (a .individuals) (a .rows .now) (a .table .now) (l .table) (l .inv .3 .fewer) (s .pre .1 .1 .1),
+        ),
+      ),
+    )
 
 same-length : tie.Need-same-length Inv-loop μ-loop
 same-length c = c .before .before .before .before .pass .kept .1 .1 .1 .1 .1 .1 .1 .0 ∙ c .before .before .before .before .before .before .before .loop .inv .0

@@ -39,7 +39,12 @@ slice-write-bounds-3 : tie.Need-slice-write-bounds-3
 slice-write-bounds-3 c =
     let s = c .before .before in
     let a = s .args in
-    omega (arith, s .pre .1, length-set (a .bounds .now) (3 * a .m) (a .b .column), length-set (set (a .bounds .now) (3 * a .m) (a .b .column)) (3 * a .m + 1) (a .b .low))
+    omega (
+      arith,
+      s .pre .1,
+      length-set (a .bounds .now) (3 * a .m) (a .b .column),
+      length-set (set (a .bounds .now) (3 * a .m) (a .b .column)) (3 * a .m + 1) (a .b .low),
+    )
 
 add-result : tie.Need-add-result
 add-result c = search needs

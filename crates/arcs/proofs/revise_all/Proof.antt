@@ -59,7 +59,8 @@ revise-by-requires c κs =
     let a = s .args in
     let l = c .before .before .before .before .loop in
     let p = s .pre .1 .0 in
-    let g = graded-fewer (a .logic) (a .columns) (a .count) (a .individuals) (a .rows .now) (a .table .now) (l .table) (l .inv .3 .pruned .fewer) (s .pre .1 .1 .1) in (
+    let g = graded-fewer (a .logic) (a .columns) (a .count) (a .individuals) (a .rows .now) (a .table .now) (l .table) (l .inv .3 .pruned .fewer)
+    (s .pre .1 .1 .1) in (
       s .pre .0,
       ((p .0, c .before .before .before .loop-test .taken, c .before .before .if1 .left, omega (arith, l .inv .0, p .1), omega (arith, l .inv .1, p .2)), (l .inv .2, g)),
     )

@@ -36,7 +36,8 @@ slice-aggregate-seek-around c =
     let s = c .before .before .before .before .before .before .before .before .before .before .before in
     let a = s .args in
     let t = c .before .before .before .make-box in
-    sym (box-long (a .logic) (a .columns) _ (a .bounds .now) _ (t .result) (t .ensures .0) (omega (arith, t .ensures .1, t .kept .1 .1 .1 .1 .1 .0, s .pre .1 .1 .2)))
+    sym (box-long (a .logic) (a .columns) _ (a .bounds .now) _ (t .result) (t .ensures .0)
+    (omega (arith, t .ensures .1, t .kept .1 .1 .1 .1 .1 .0, s .pre .1 .1 .2)))
 
 seek-around-requires : tie.Need-seek-around-requires
 seek-around-requires c κs =
@@ -44,8 +45,11 @@ seek-around-requires c κs =
     let a = s .args in
     let t = c .before .before .before .make-box in
     let p = s .pre .1 .0 in
-    let o = box-of (a .logic) (a .columns) _ (a .bounds .now) _ (t .result) (t .ensures .0) (omega (arith, t .ensures .1, t .kept .1 .1 .1 .1 .1 .0, s .pre .1 .1 .2)) in
-    ((omega (arith, p .0, p .1), p .3, p .4, s .pre .1 .1 .0, s .pre .1 .1 .1, s .pre .1 .1 .3 (a .i) (p .0)), λ x h. omega (arith, o .columns x h, s .pre .0 .4))
+    let o = box-of (a .logic) (a .columns) _ (a .bounds .now) _ (t .result) (t .ensures .0)
+    (omega (arith, t .ensures .1, t .kept .1 .1 .1 .1 .1 .0, s .pre .1 .1 .2)) in (
+      (omega (arith, p .0, p .1), p .3, p .4, s .pre .1 .1 .0, s .pre .1 .1 .1, s .pre .1 .1 .3 (a .i) (p .0)),
+      λ x h. omega (arith, o .columns x h, s .pre .0 .4),
+    )
 
 same-length : tie.Need-same-length
 same-length c = search needs
@@ -55,7 +59,8 @@ returns c =
     let s = c .before .before .before .before .before .before .before .before .before .before .before .before in
     let a = s .args in
     let t = c .before .before .before .before .make-box in
-    tried-of (a .logic) (a .columns) (a .forth .now) (a .back .now) (a .count) (a .individuals) (a .rows .now) (a .table .now) (a .i) (a .c) (c .seek-around .result)
+    tried-of (a .logic) (a .columns) (a .forth .now) (a .back .now) (a .count) (a .individuals) (a .rows .now) (a .table .now) (a .i) (a .c)
+    (c .seek-around .result)
     (s .pre .1 .0 .0) (s .pre .1 .1 .4) _ (a .bounds .now) _ (t .result) (c .before .before .before .before .before .before .row-at .ensures) (t .ensures .0)
     (omega (arith, t .ensures .1, t .kept .1 .1 .1 .1 .1 .0, s .pre .1 .1 .2)) (c .seek-around .ensures)
 

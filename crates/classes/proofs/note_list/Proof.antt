@@ -33,7 +33,8 @@ slice-write-seen c =
     let p = c .before .before .before .before .before .before .pre in
     let l = c .before .before .before .loop in
     let is : c .read-at .result ≡ readAt (a .end) (constraintAt (a .s .now) (l .y)) = c .read-at .ensures ∙ ap (readAt (a .end)) (c .before .constraint-at .ensures) in
-    let lt = read-lt (a .logic) (a .columns) (a .end) (constraintAt (a .s .now) (l .y)) (p .2) (p .0 (l .y) (omega (arith, c .before .before .loop-test .taken))) in
+    let lt = read-lt (a .logic) (a .columns) (a .end) (constraintAt (a .s .now) (l .y)) (p .2) (p .0 (l .y)
+    (omega (arith, c .before .before .loop-test .taken))) in
     omega (arith, is, lt, p .1, l .inv .0)
 
 add-y : tie.Need-add-y Inv-loop μ-loop
@@ -48,7 +49,8 @@ loop-again c =
     let p = c .before .before .before .before .before .before .pre in
     let l = c .before .before .before .loop in
     let is : c .read-at .result ≡ readAt (a .end) (constraintAt (a .s .now) (l .y)) = c .read-at .ensures ∙ ap (readAt (a .end)) (c .before .constraint-at .ensures) in
-    let lt = read-lt (a .logic) (a .columns) (a .end) (constraintAt (a .s .now) (l .y)) (p .2) (p .0 (l .y) (omega (arith, c .before .before .loop-test .taken))) in
+    let lt = read-lt (a .logic) (a .columns) (a .end) (constraintAt (a .s .now) (l .y)) (p .2) (p .0 (l .y)
+    (omega (arith, c .before .before .loop-test .taken))) in
     let h : c .read-at .result < length (l .seen) = omega (arith, is, lt, p .1, l .inv .0) in (
       length-set (l .seen) _ _ ∙ l .inv .0,
       omega (arith, c .before .before .loop-test .taken),

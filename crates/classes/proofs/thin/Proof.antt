@@ -11,7 +11,8 @@ use Rattle.classes.proofs.thin.Statement.{statement}
 use Rattle.classes.proofs.thin.Tie as tie
 
 abbrev Inv-loop : tie.InvT-loop
-Inv-loop logic net ends columns count individuals rows table₀ j₀ table j = (length table ≡ length table₀) × Thinned logic net ends count rows individuals table₀ table
+Inv-loop logic net ends columns count individuals rows table₀ j₀ table j =
+    (length table ≡ length table₀) × Thinned logic net ends count rows individuals table₀ table
 
 abbrev μ-loop : tie.MeasureT-loop
 μ-loop logic net ends columns count individuals rows table₀ j₀ table j = individuals - j

@@ -74,7 +74,8 @@ returns c =
     let p = s .pre .1 in
     let n = c .before .before .before .before .before .before .before .before .before .before .before .before .before .before .before .note-all in
     let r = c .before .before .before .before .before .before .before .before .before .before .list-read in
-    thinned-at (a .logic) (a .net .now) (a .ends .now) (a .count) (a .rows .now) (a .individuals) (a .columns) w (a .j) (p .0) (n .last .1 .1 .1 .1 .1 .0) (n .ensures)
+    thinned-at (a .logic) (a .net .now) (a .ends .now) (a .count) (a .rows .now) (a .individuals) (a .columns) w (a .j) (p .0)
+    (n .last .1 .1 .1 .1 .1 .0) (n .ensures)
     (r .result) (r .last .1 .0) (r .ensures) (omega (arith, r .kept .1 .0, p .3)) (a .table .now) _ (c .before .before .before .before .thin-by .ensures)
 
 pub thin-in-spec : {M : Type 1} → statement M

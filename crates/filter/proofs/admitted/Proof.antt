@@ -14,7 +14,9 @@ returns : tie.Need-returns
 returns c = (λ e. absurd (omega arith), λ h. absurd (told-no _ (c .before .memberships-met .ensures) (c .if1 .taken) (h .0)))
 
 between-requires : tie.Need-between-requires
-between-requires c κs = let s = c .before .before .before .before .before .before .before in (s .pre .1 .1 .0, s .pre .1 .1 .0, s .pre .1 .0 .long, s .pre .1 .0 .laid)
+between-requires c κs =
+    let s = c .before .before .before .before .before .before .before in
+    (s .pre .1 .1 .0, s .pre .1 .1 .0, s .pre .1 .0 .long, s .pre .1 .0 .laid)
 
 all-met-requires : tie.Need-all-met-requires
 all-met-requires c κs =
@@ -25,10 +27,12 @@ returns-2 : tie.Need-returns-2
 returns-2 c = (λ e. absurd (omega arith), λ h. absurd (told-no _ (c .before .all-met .ensures) (c .if2 .taken) (rw (c .before .before .between .ensures) (h .1))))
 
 returns-3 : tie.Need-returns-3
-returns-3 c = (
-  λ _. (told-yes _ (c .before .before .before .before .memberships-met .ensures) (c .before .before .before .if1 .left), rw (← c .before .before .between .ensures) (told-yes _ (c .before .all-met .ensures) (c .if2 .left))),
-  λ _. refl,
-)
+returns-3 c =
+    let m = c .before .before .before in
+    let b = c .before .before .between .ensures in (
+      λ _. (told-yes _ (m .before .memberships-met .ensures) (m .if1 .left), rw (← b) (told-yes _ (c .before .all-met .ensures) (c .if2 .left))),
+      λ _. refl,
+    )
 
 pub admitted-spec : {M : Type 1} → statement M
 admitted-spec =

@@ -25,8 +25,9 @@ slice-aggregate-put-row c = search needs
 
 put-row-requires : tie.Need-put-row-requires
 put-row-requires c κs =
-    let s = c .before .before .before .before .before .before .before .before .before .before .before .before in
-    let k = c .before .before .before .fill-row .kept in
+    let r = c .before .before .before in
+    let s = r .before .before .before .before .before .before .before .before .before in
+    let k = r .fill-row .kept in
     (omega (arith, s .pre .1 .0 .few), slots-within (s .pre .0) _ (omega (arith, s .pre .0 .few-terms)), omega (arith, s .pre .1 .1))
 
 mul-allow-row : tie.Need-mul-allow-row
@@ -40,12 +41,13 @@ row-at-requires c κs = search needs
 
 allow-row-requires : tie.Need-allow-row-requires
 allow-row-requires c κs =
-    let s = c .before .before .before .before .before .before .before .before .before .before .before .before .before .before .before .before .before .before .before in
-    let a = s .args in
-    let k = c .before .before .before .before .before .before .before .before .before .before .fill-row .kept in
-    let p = c .before .before .before .before .before .before .put-row in
-    let room : 32 * a .c + 32 ≤ length (p .last .1 .1 .0) = omega (arith, p .kept .1 .1 .0, s .pre .1 .1) in
-    let long = length-rowAt (p .last .1 .1 .0) (a .c) room in (
+    let p = c .before .before .before .before .before .before in
+    let r = p .before .before .before .before in
+    let s = r .before .before .before .before .before .before .before .before .before in
+    let k = r .fill-row .kept in
+    let rows = p .put-row .last .1 .1 .0 in
+    let room : 32 * s .args .c + 32 ≤ length rows = omega (arith, p .put-row .kept .1 .1 .0, s .pre .1 .1) in
+    let long = length-rowAt rows (s .args .c) room in (
       claims-within (s .pre .0) _ (omega (arith, s .pre .0 .few-terms)),
       (s .pre .1 .0, (s .pre .1 .1 .0, rw (c .before .row-at .ensures) (omega (arith, long, s .pre .1 .0 .few)), s .pre .1 .1 .1, s .pre .1 .1 .3)),
     )
@@ -58,14 +60,15 @@ same-length-2 c = search needs
 
 returns : tie.Need-returns
 returns c =
-    let s = c .before .before .before .before .before .before .before .before .before .before .before .before .before .before .before .before .before .before .before .before .before .before in
+    let p = c .before .before .before .before .before .before .before .before .before in
+    let r = p .before .before .before .before in
+    let s = r .before .before .before .before .before .before .before .before .before in
     let a = s .args in
-    let f = c .before .before .before .before .before .before .before .before .before .before .before .before .before .fill-row in
-    let p = c .before .before .before .before .before .before .before .before .before .put-row in
-    let w = c .before .before .allow-row in
     let G = grading (a .logic) (termsOf (a .terms .now)) in
-    entered-by (s .pre .0) (a .net .now) (a .ends .now) (a .c) (f .last .1 .1 .1 .0) (subst (HasGrades G (a .c)) (sym (f .ensures)) (front-grades G (a .c) _)) (a .individuals)
-    (a .rows .now) _ (a .table .now) _ (p .ensures .0) (p .ensures .1) _ (c .before .before .before .before .row-at .ensures) (w .ensures)
+    let full = r .fill-row .last .1 .1 .1 .0 in
+    let are : HasGrades G (a .c) full = subst (HasGrades G (a .c)) (sym (r .fill-row .ensures)) (front-grades G (a .c) _) in
+    entered-by (s .pre .0) full are (p .put-row .ensures .0) (p .put-row .ensures .1) (c .before .before .before .before .row-at .ensures)
+    (c .before .before .allow-row .ensures)
 
 pub enter-spec : {M : Type 1} → statement M
 enter-spec =

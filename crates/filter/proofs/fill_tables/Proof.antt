@@ -1,7 +1,7 @@
 -- `filter::fill_tables` meets its contract. The candidates below `entered` are entered.
 -- Assumes nothing.
-use mathlib.Core.Path.{_≡_, refl, subst, _∙_}
-use Prim.Native.Nat.{ℕ, _≤_, _-_}
+use mathlib.Core.Path.{_≡_, refl, _∙_}
+use Prim.Native.Nat.{_≤_, _-_}
 use native.Mathlib.Omega.{arith}
 use lib.ListN.{length}
 use borrow.Author.Needs.{needs}
@@ -19,10 +19,7 @@ abbrev μ-loop : tie.MeasureT-loop
 μ-loop logic terms slots memberships net ends marks count individuals rows₀ table₀ entered₀ rows table entered = count - entered
 
 loop-holds : tie.Need-loop-holds Inv-loop μ-loop
-loop-holds c =
-    let s = c .before .before .before .before .before .before .before .before in
-    let a = s .args in
-    (omega arith, refl, refl, filtered-start (a .logic) (a .terms .now) (a .slots .now) (a .memberships .now) (a .net .now) (a .ends .now) (a .marks .now) (a .individuals) (a .rows .now) (a .table .now) (s .pre .1 .1 .2))
+loop-holds c = (omega arith, refl, refl, filtered-start (c .before .before .before .before .before .before .before .before .pre .1 .1 .2))
 
 add-entered : tie.Need-add-entered Inv-loop μ-loop
 add-entered c = search needs
@@ -34,16 +31,14 @@ loop-less : tie.Need-loop-less Inv-loop μ-loop
 loop-less c = search needs
 
 loop-again : tie.Need-loop-again Inv-loop μ-loop
-loop-again c =
-    let a = c .before .before .before .before .before .before .before .before .before .before .before .before .args in
-    let l = c .before .before .before .loop in
-    (omega arith, l .inv .1, l .inv .2, filtered-off (a .logic) (a .terms .now) (a .slots .now) (a .memberships .now) (a .net .now) (a .ends .now) (a .marks .now) (a .individuals) (l .entered) (l .rows) (l .table) (l .inv .3) (c .if1 .taken))
+loop-again c = let l = c .before .before .before .loop in (omega arith, l .inv .1, l .inv .2, filtered-off (l .inv .3) (c .if1 .taken))
 
 enter-requires : tie.Need-enter-requires Inv-loop μ-loop
 enter-requires c κs =
-    let s = c .before .before .before .before .before .before .before .before .before .before .before .before .before .before in
-    let p = s .pre .1 .0 in
-    let l = c .before .before .before .before .before .loop in (
+    let t = c .before .before .before .before .before in
+    let s = t .before .before .before .before .before .before .before .before .before in
+    let l = t .loop in
+    let p = s .pre .1 .0 in (
       s .pre .0,
       (
         p .wired,
@@ -61,13 +56,12 @@ loop-less-2 c = search needs
 
 loop-again-2 : tie.Need-loop-again-2 Inv-loop μ-loop
 loop-again-2 c =
-    let a = c .before .before .before .before .before .before .before .before .before .before .before .before .before .before .before .before .before .before .before .args in
     let l = c .before .before .before .before .before .before .before .before .before .before .loop in
     let e = c .before .before .before .before .enter in (
       omega (arith, c .before .before .before .before .before .before .before .before .before .loop-test .taken),
       e .kept .1 .1 .1 .1 .1 .1 .1 .1 .0 ∙ l .inv .1,
       e .kept .1 .1 .1 .1 .1 .1 .1 .1 .1 .0 ∙ l .inv .2,
-      filtered-on (a .logic) (a .terms .now) (a .slots .now) (a .memberships .now) (a .net .now) (a .ends .now) (a .marks .now) (a .individuals) (l .entered) (l .rows) (l .table) (l .inv .3) _ _ (c .before .before .before .before .before .before .before .if1 .left) (e .ensures),
+      filtered-on (l .inv .3) (c .before .before .before .before .before .before .before .if1 .left) (e .ensures),
     )
 
 same-length : tie.Need-same-length Inv-loop μ-loop
@@ -78,9 +72,9 @@ same-length-2 c = c .before .loop .inv .2
 
 returns : tie.Need-returns Inv-loop μ-loop
 returns c =
-    let a = c .before .before .before .before .before .before .before .before .before .before .args in
     let l = c .before .loop in
-    subst (λ (k : ℕ). Filtered (a .logic) (a .terms .now) (a .slots .now) (a .memberships .now) (a .net .now) (a .ends .now) (a .marks .now) (a .individuals) k (l .rows) (l .table)) (omega arith) (l .inv .3)
+    let e : l .entered ≡ c .before .before .before .before .before .before .before .before .before .before .args .count = omega arith in
+    rw e at (l .inv .3)
 
 pub fill-tables-spec : {M : Type 1} → statement M
 fill-tables-spec =

@@ -59,7 +59,8 @@ claimed-requires c κs = search needs
 returns-2 : tie.Need-returns-2
 returns-2 c =
     let a = c .before .before .before .before .before .before .before .before .before .before .before .args in
-    membership-told _ (a .memberships .now) (a .j) (entry (a .row .now)) (a .i) _ _ (c .before .before .before .before .before .before .before .wide .ensures .0)
+    membership-told _ (a .memberships .now) (a .j) (entry (a .row .now)) (a .i) _ _
+    (c .before .before .before .before .before .before .before .wide .ensures .0)
     (c .before .before .before .before .before .before .if1 .left) (c .before .before .wide2 .ensures .0) (c .claimed .ensures)
 
 pub membership-met-spec : {M : Type 1} → statement M

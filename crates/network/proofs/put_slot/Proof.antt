@@ -94,7 +94,8 @@ same-length c = search needs
 returns-2 : tie.Need-returns-2
 returns-2 c =
     let s = c .before .before .before .before .before .before .before .before in
-    rw (c .before .before .before .wide .ensures .0) (slot-put (s .args .slots .now) (s .args .levels .now) (s .args .x) (s .args .j) (s .args .net .now) (s .args .m) (s .pre .5))
+    rw (c .before .before .before .wide .ensures .0) (slot-put (s .args .slots .now) (s .args .levels .now) (s .args .x) (s .args .j)
+    (s .args .net .now) (s .args .m) (s .pre .5))
 
 pub put-slot-spec : {M : Type 1} → statement M
 put-slot-spec =

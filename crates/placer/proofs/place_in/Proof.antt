@@ -93,13 +93,22 @@ returns c =
     vain-placed (prepared (connected e)) (rows e) (table e) (e .fill-tables .ensures) _ (c .before .in-vain .ensures .0 (c .if1 .taken))
 
 mul-columns : tie.Need-mul-columns
-mul-columns c = omega (arith, c .before .before .before .before .before .before .before .before .before .before .before .before .before .before .before .before .before .before .before .before .before .before .before .before .before .before .before .before .before .pre .0 .few-slots)
+mul-columns c =
+    let e = c .before .before .before .before .before .before .before in
+    omega (arith, entry e .pre .0 .few-slots)
 
 place-thinned-requires : tie.Need-place-thinned-requires
 place-thinned-requires c κs =
     let e = c .before .before .before .before .before .before .before .before .before .before .before .before in
-    let s = entry e in
-    (solvable (connected e) (rows e) (rows-long e), (table-long e, s .pre .1 .0, filtered-graded (prepared (connected e)) (rows e) (table e) (e .fill-tables .ensures)))
+    let s = entry e in (
+      solvable (connected e) (rows e) (rows-long e),
+      (
+        table-long e,
+        s .pre .1 .0,
+        filtered-graded (prepared (connected e)) (rows e) (table e)
+            (e .fill-tables .ensures),
+      ),
+    )
 
 same-length-5 : tie.Need-same-length-5
 same-length-5 c = search needs

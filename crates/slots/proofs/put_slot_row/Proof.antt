@@ -45,19 +45,31 @@ cast-below : tie.Need-cast-below Inv-loop μ-loop
 cast-below c = omega (arith, c .shared-slice-known2 .given (4 * c .before .before .before .loop .q + 2))
 
 shared-slice-read-part : tie.Need-shared-slice-read-part Inv-loop μ-loop
-shared-slice-read-part c = omega (arith, c .before .before .before .before .before .pre .1 (c .before .before .before .before .loop .q) (omega arith))
+shared-slice-read-part c =
+    let t = c .before .before .before .before in
+    let s = t .before in
+    omega (arith, s .pre .1 (t .loop .q) (omega arith))
 
 slice-write-part : tie.Need-slice-write-part Inv-loop μ-loop
-slice-write-part c = omega (arith, c .before .before .before .before .loop .inv .1, c .before .before .before .before .before .pre .0)
+slice-write-part c =
+    let t = c .before .before .before .before in
+    let s = t .before in
+    omega (arith, t .loop .inv .1, s .pre .0)
 
 shared-slice-read-part-2 : tie.Need-shared-slice-read-part-2 Inv-loop μ-loop
-shared-slice-read-part-2 c = omega (arith, c .before .before .before .before .before .before .pre .1 (c .before .before .before .before .before .loop .q) (omega arith))
+shared-slice-read-part-2 c =
+    let t = c .before .before .before .before .before in
+    let s = t .before in
+    omega (arith, s .pre .1 (t .loop .q) (omega arith))
 
 add-part : tie.Need-add-part Inv-loop μ-loop
 add-part c = search needs
 
 slice-write-part-2 : tie.Need-slice-write-part-2 Inv-loop μ-loop
-slice-write-part-2 c = simp length-set (omega (arith, c .before .before .before .before .before .loop .inv .1, c .before .before .before .before .before .before .pre .0))
+slice-write-part-2 c =
+    let t = c .before .before .before .before .before in
+    let s = t .before in
+    simp length-set (omega (arith, t .loop .inv .1, s .pre .0))
 
 add-q : tie.Need-add-q Inv-loop μ-loop
 add-q c = search needs
