@@ -1,94 +1,104 @@
--- Where the sweeps start and what they end in: filled tables are those of the terms, and the marks that are left are the survivors'.
+-- Where the sweeps start and what they end in: what is entered are the classes of the terms' grades, and the marks that are left are the survivors'.
 -- Assumes nothing.
-use mathlib.Core.Path.{_≡_, refl, _∙_}
+use mathlib.Core.Path.{_≡_, sym, subst, _∙_}
 use mathlib.Core.Logic.{dite, _↔_}
-use mathlib.Core.List.{List, [], _∷_}
-use Prim.Native.Nat.{ℕ, zero, suc, _+_, _*_, _≤_, _<_}
+use mathlib.Core.List.{List}
+use Prim.Native.Nat.{ℕ, _*_, _≤_, _<_}
 use native.Mathlib.Decide.{decLt}
 use native.Mathlib.Omega.{arith}
-use lib.ListN.{length, getD}
+use lib.ListN.{length, getD, List·getD-eq-default}
 use Rattle.semantics.specs.Terms.{Term, Ordered}
-use Rattle.semantics.specs.Interpretations.{Grading}
+use Rattle.semantics.specs.Interpretations.{Grading, WellFormed}
 use Rattle.semantics.specs.Books.{Rule}
 use Rattle.semantics.specs.Candidates.{candidates}
 use Rattle.semantics.proofs.Candidates.{gradeIn-le}
 use Rattle.gradings.specs.Gradings.{grading}
 use Rattle.gradings.specs.declared.Logic.{Logic}
 use Rattle.gradings.proofs.Gradings.{grading-well-formed}
+use Rattle.slots.specs.Slots.{slotCount, slotQuantifier, slotRole, slotChild, slotTerm, SlotsOf}
+use Rattle.slots.proofs.Slots.{slot-child}
 use Rattle.elimination.specs.Survivors.{Sound, survivors, Survives, Covers}
 use Rattle.elimination.specs.Marks.{marksOf, Marked}
 use Rattle.elimination.proofs.Survivors.{survivors-ascending, survivors-sound, covers-sound}
 use Rattle.elimination.proofs.Marks.{marked-lt, marks-of, marks-number}
-use Rattle.slots.proofs.Slots.{slot-child}
-use Rattle.slots.specs.Slots.{slotCount, slotQuantifier, slotRole, slotChild, slotTerm, SlotsOf}
-use Rattle.witnesses.specs.Tables.{Tables, tables, Ready, TablesOf}
+use Rattle.witnesses.specs.Tables.{cell, tables, Ready, RowOf}
 use Rattle.witnesses.proofs.Tables.{witness-witnesses, witnesses-witness}
-use Rattle.sweeps.specs.Sweeps.{Closed, State, Settled}
+use Rattle.partition.specs.Rows.{Classified}
+use Rattle.sweeps.specs.Sweeps.{Classes, classes, Into, Closed, Counted, Settled}
+use Rattle.eliminator.specs.declared.Tally.{Tally}
 use Rattle.eliminator.specs.Filling.{Entered}
 
-past-end : (l : List ℕ) (c : ℕ) → length l ≤ c → getD l c 0 ≡ 0
-past-end [] c h = refl
-past-end (x ∷ xs) zero h = absurd (omega arith)
-past-end (x ∷ xs) (suc c) h = past-end xs c (omega arith)
+-- what holds of each member's entries holds of each class's
+rows-are : (P : ℕ → Type 0) (f : ℕ → ℕ → ℕ) (m : ℕ) (rows class : List ℕ) (b count : ℕ) → Classified f m rows class b count
+    → ((c q : ℕ) → c < b → q < m → P (f c q)) → (a q : ℕ) → a < count → q < m → P (cell rows a q)
+rows-are P f m rows class b count C each a q h l =
+    let u = C .each a h in
+    subst (λ (z : ℕ). P (cell rows z q)) (u .2) (subst P (sym (C .are (u .0) (u .1) q l)) (each (u .0) q (u .1) l))
 
-module _ (lg : Logic) (ts : List Term) (o : Ordered ts) (rs : List Rule) (count : ℕ) (slots own child marks : List ℕ) (left : ℕ) (S : SlotsOf ts slots)
-    (E : Entered (grading lg ts) rs slots own child marks count left) where
+module _ (lg : Logic) {ts : List Term} {rs : List Rule} {count : ℕ} {slots own child source target marks : List ℕ} {t : Tally} (o : Ordered ts) (S : SlotsOf ts slots)
+    (E : Entered (grading lg ts) rs slots own child source target marks count t) where
   abbrev G : Grading
   G = grading lg ts
 
-  abbrev T : Tables
-  T = tables lg count slots own child
+  abbrev K : Classes
+  K = classes (tables lg (t .sources) (t .targets) slots own child) source target
+
+  w : WellFormed G
+  w = grading-well-formed lg ts o
 
   -- ---- the start
 
-  pub ready-of : lg .steps ≤ 16 → slotCount slots ≤ 16 → 16 * count ≤ length own → 16 * count ≤ length child → Ready T
+  pub ready-of : lg .steps ≤ 16 → slotCount slots ≤ 16 → 16 * t .sources ≤ length own → 16 * t .targets ≤ length child → Ready (K .rows)
   ready-of low few ho hc = record {
     low-steps = low;
     few = few;
     own-room = ho;
     child-room = hc;
     kinds = S .kinds;
-    own-le = λ c q h l. rw (E .own-is c h q l) (gradeIn-le G (grading-well-formed lg ts o) c (slotTerm slots q) (S .terms q l));
-    child-le = λ c q h l. rw (E .child-is c h q l) (gradeIn-le G (grading-well-formed lg ts o) c (slotChild slots q) (slot-child ts o slots S q l));
+    own-le = rows-are (λ x. x ≤ lg .steps) _ (slotCount slots) own source count (t .sources) (E .sources)
+        (λ c q _ l. gradeIn-le G w c (slotTerm slots q) (S .terms q l));
+    child-le = rows-are (λ x. x ≤ lg .steps) _ (slotCount slots) child target count (t .targets) (E .targets)
+        (λ c q _ l. gradeIn-le G w c (slotChild slots q) (slot-child ts o slots S q l));
   }
 
-  tables-of : TablesOf ts T
-  tables-of = record { slots-are = S; own-is = λ c q h l. E .own-is c h q l; child-is = λ c q h l. E .child-is c h q l }
+  module _ (size : length marks ≡ count) where
+    pub into-of : count ≤ length source → count ≤ length target → Into source (length marks) (t .sources) × Into target (length marks) (t .targets)
+    into-of hs ht = rw size ((hs, E .sources .known), (ht, E .targets .known))
 
-  -- nothing is remembered yet
-  pub state-of : (memory : List ℕ) → slotCount slots ≤ 16 → length marks ≡ count → ((i : ℕ) → i < 16 * count → getD memory i 0 ≡ 0) → State T marks memory left
-  state-of memory few size zeros = record {
-    size = size;
-    bits = λ c. dite (decLt c count) (E .bits c) (λ n. omega (arith, past-end marks c (omega arith)));
-    remembers = λ c q hc hq.
-        let z = zeros (16 * c + q) (omega arith) in
-        record { within = omega arith; known = λ l. absurd (omega arith); passed = λ d l. absurd (omega arith) };
-    counted = E .counted;
-  }
+    pub counted-of : Counted (length marks) marks (t .left)
+    counted-of = rw size (record {
+      bits = λ c. dite (decLt c count) (E .bits c) (λ n. omega (arith, List·getD-eq-default marks 0 {n = c} (omega arith)));
+      number = E .counted;
+    })
 
   -- ---- the end
 
   module _ (e : count ≡ candidates G) where
-    survivors-closed : Closed T (survivors G rs)
-    survivors-closed c m = (
-      omega (arith, survivors-sound G rs .candidate c m),
-      λ q h.
-          let u = survivors-sound G rs .fits c m .1 (slotTerm slots q) (S .terms q h) (slotQuantifier slots q) (slotRole slots q) (slotChild slots q) (S .are q h) in (
-            u .0,
-            u .1,
-            witnesses-witness ts o T tables-of c q (u .0) (omega (arith, survivors-sound G rs .candidate c m)) h
-                (omega (arith, survivors-sound G rs .candidate (u .0) (u .1))) (u .2),
-          ),
-    )
+    -- candidates' rows, for the laws of witnesses
+    own-row : (c : ℕ) → c < count → RowOf lg ts slots slotTerm own (getD source c 0) c
+    own-row c h = E .sources .are c h
 
-    module _ (after : List ℕ) (r : ℕ) (size : length after ≡ count) (Z : Settled T marks after r) where
+    child-row : (c : ℕ) → c < count → RowOf lg ts slots slotChild child (getD target c 0) c
+    child-row c h = E .targets .are c h
+
+    survivor-lt : (c : ℕ) → Survives G rs c → c < count
+    survivor-lt c m = omega (arith, survivors-sound G rs .candidate c m)
+
+    survivors-closed : Closed K (survivors G rs)
+    survivors-closed c m q h =
+        let u = survivors-sound G rs .fits c m .1 (slotTerm slots q) (S .terms q h) (slotQuantifier slots q) (slotRole slots q) (slotChild slots q) (S .are q h) in (
+          u .0,
+          u .1,
+          witnesses-witness ts o (K .rows) S (getD source c 0) c (own-row c (survivor-lt c m)) (getD target (u .0) 0) (u .0)
+              (child-row (u .0) (survivor-lt (u .0) (u .1))) q h (u .2),
+        )
+
+    module _ (after : List ℕ) (r : ℕ) (size : length marks ≡ count) (long : length after ≡ count) (Z : Settled K (length marks) marks after r) where
       marked-candidate : (c : ℕ) → Marked after c → c < count
       marked-candidate c h = omega (arith, marked-lt after c h)
 
       covers : Covers G rs (Marked after)
-      covers = Z .reduced .keeps (survivors G rs) survivors-closed (λ c m.
-          let u = survivors-sound G rs in
-          E .marked c (omega (arith, u .candidate c m)) .1 (u .fits c m .0))
+      covers = Z .reduced .keeps (survivors G rs) survivors-closed (λ c m. E .marked c (survivor-lt c m) .1 (survivors-sound G rs .fits c m .0))
 
       sound : Sound G rs (Marked after)
       sound = record {
@@ -97,8 +107,12 @@ module _ (lg : Logic) (ts : List Term) (o : Ordered ts) (rs : List Rule) (count 
           E .marked c (marked-candidate c h) .0 (Z .reduced .part c h),
           λ i l k p x f.
               let u = S .onto i l k p x f in
-              let v = Z .supported c h (u .0) (u .1) in
-              (v .0, v .1, witness-witnesses ts o T tables-of c (u .0) (v .0) (marked-candidate c h) (u .1) (marked-candidate (v .0) (v .1)) (v .2) i k p x (u .2) f),
+              let v = Z .supported c h (u .0) (u .1) in (
+                v .0,
+                v .1,
+                witness-witnesses ts o (K .rows) S (getD source c 0) c (own-row c (marked-candidate c h)) (getD target (v .0) 0) (v .0)
+                    (child-row (v .0) (marked-candidate (v .0) (v .1))) (u .0) (u .1) (v .2) i k p x (u .2) f,
+              ),
         );
       }
 
@@ -107,6 +121,6 @@ module _ (lg : Logic) (ts : List Term) (o : Ordered ts) (rs : List Rule) (count 
 
       pub settled-survivors : (r ≡ length (survivors G rs)) × (after ≡ marksOf (survivors G rs) count)
       settled-survivors = (
-        Z .counted ∙ marks-number (survivors G rs) after count size same (survivors-ascending G rs),
-        marks-of (survivors G rs) after count size same (Z .bits),
+        rw size at (Z .counted .number) ∙ marks-number (survivors G rs) after count long same (survivors-ascending G rs),
+        marks-of (survivors G rs) after count long same (Z .counted .bits),
       )

@@ -2,21 +2,24 @@
 ghost use mathlib.Core.Path.{_≡_};
 ghost use mathlib.Core.Logic.{_↔_};
 ghost use mathlib.Core.List.{_++_};
-ghost use Prim.Native.Nat.{ℕ, _+_, _*_, _<_, _≤_};
-ghost use lib.ListN.{length, getD, drop};
+ghost use Prim.Native.Nat.{ℕ, _+_, _-_, _<_, _≤_};
+ghost use lib.ListN.{length, getD, take, drop};
 ghost use Rattle.sections.specs.Terms.{termsOf};
 ghost use Rattle.sections.specs.Rules.{rulesOf, RulesRight};
 ghost use Rattle.gradings.specs.Gradings.{grading};
-ghost use Rattle.slots.specs.Slots.{slotCount, slotChild, slotTerm};
 ghost use Rattle.elimination.specs.Survivors.{survivors};
 ghost use Rattle.elimination.specs.Marks.{marksOf};
-ghost use Rattle.eliminator.specs.Filling.{RowObeys, Copied, Entered};
+ghost use Rattle.partition.specs.Rows.{Enrolled};
+ghost use Rattle.eliminator.specs.Filling.{RowObeys, Roomy, Entered, Indexed};
 ghost use Rattle.eliminator.specs.Eliminating.{Task, Eliminated};
 use grades::fill_row;
 use gradings::Logic;
+use gradings::base;
+use partition::enroll;
+use slots::put_slot_row;
 use sweeps::settle;
 
-// ---- filling the tables
+// ---- entering the candidates
 
 // The mark of a row of grades by the rules alone: 1 if it meets every rule, else 0. The first rule that it does not meet decides.
 fn mark_by_rules(rules: &[u8], row: &[u8]) -> u8
@@ -36,24 +39,46 @@ fn mark_by_rules(rules: &[u8], row: &[u8]) -> u8
     1
 }
 
-// Row `c` of both tables, from the row of all grades.
-fn copy_row(slots: &[u8], row: &[u8], own: &mut [u8], child: &mut [u8], c: usize)
-    requires { ⌜ (slotCount (now slots) ≤ 16) × (c < 16384) × (16 * c + 16 ≤ length (now own)) × (16 * c + 16 ≤ length (now child)) ⌝ }
-    requires { ⌜ ((q : ℕ) → q < slotCount (now slots) → (slotTerm (now slots) q < length (now row)) × (slotChild (now slots) q < length (now row))) ⌝ }
-    ensures { λ _. ⌜ Copied (now (slots .entry)) (now (row .entry)) (now (own .entry)) (now (own .exit)) (now (child .entry)) (now (child .exit)) c (slotCount (now (slots .entry))) ⌝ }
+// How many marks, sources and targets there are so far.
+pub struct Tally {
+    pub left: usize,
+    pub sources: usize,
+    pub targets: usize,
+}
+
+// Gives candidate `c` its source and its target by a row of `m` slots: of the first `m` grades, and of the `m` behind them, each one of `n`. The
+// marks stay as many.
+fn classify(
+    n: usize,
+    m: usize,
+    part: &[u8],
+    own: &mut [u8],
+    child: &mut [u8],
+    source: &mut [u16],
+    target: &mut [u16],
+    first: &mut [u16],
+    second: &mut [u16],
+    c: usize,
+    t: Tally,
+) -> Tally
+    requires { ⌜ (n ≤ 256) × (m ≤ 16) × (m + m ≤ length (now part)) × (c < 16384) × (t .sources ≤ c) × (t .targets ≤ c) ⌝ }
+    requires { ⌜ Roomy (now own) (now child) (now source) (now target) × (16384 ≤ length (now first)) × (16384 ≤ length (now second)) ⌝ }
+    requires { ⌜ Indexed (now first) (now second) t ⌝ }
+    ensures { λ r. ⌜ Enrolled (take m (now (part .entry))) m (now (own .entry)) (now (own .exit)) (now (source .entry)) (now (source .exit)) c (t .sources) (r .sources) ⌝ }
+    ensures { λ r. ⌜ Enrolled (take (m + m - m) (drop m (now (part .entry)))) m (now (child .entry)) (now (child .exit)) (now (target .entry)) (now (target .exit)) c (t .targets) (r .targets) ⌝ }
+    ensures { λ r. ⌜ Indexed (now (first .exit)) (now (second .exit)) r × (r .left ≡ t .left) ⌝ }
 {
-    let count = slots.len() / 4;
-    let mut q = 0;
-    while q < count {
-        let term = slots[4 * q + 3] as usize;
-        let below = slots[4 * q + 2] as usize;
-        own[16 * c + q] = row[term];
-        child[16 * c + q] = row[below];
-        q += 1;
+    let sources = enroll(own, first, source, &part[..m], m, n, c, t.sources);
+    let end = m + m;
+    let targets = enroll(child, second, target, &part[m..end], m, n, c, t.targets);
+    Tally {
+        left: t.left,
+        sources: sources,
+        targets: targets,
     }
 }
 
-// Enters candidate `c`: its rows, and its mark by the rules alone. The number of marks so far.
+// Enters candidate `c`: its mark by the rules alone, its source and its target.
 fn enter(
     logic: Logic,
     terms: &[u8],
@@ -61,24 +86,94 @@ fn enter(
     rules: &[u8],
     own: &mut [u8],
     child: &mut [u8],
+    source: &mut [u16],
+    target: &mut [u16],
+    first: &mut [u16],
+    second: &mut [u16],
     marks: &mut [u8],
     c: usize,
-    left: usize,
-) -> usize
+    t: Tally,
+) -> Tally
     requires { ⌜ Task logic (now terms) (now slots) (now rules) (length (now marks)) ⌝ }
-    requires { ⌜ (c < length (now marks)) × (16 * c + 16 ≤ length (now own)) × (16 * c + 16 ≤ length (now child)) ⌝ }
-    requires { ⌜ Entered (grading logic (termsOf (now terms))) (rulesOf (now rules)) (now slots) (now own) (now child) (now marks) c left ⌝ }
-    ensures { λ r. ⌜ Entered (grading logic (termsOf (now (terms .entry)))) (rulesOf (now (rules .entry))) (now (slots .entry)) (now (own .exit)) (now (child .exit)) (now (marks .exit)) (c + 1) r ⌝ }
+    requires { ⌜ Roomy (now own) (now child) (now source) (now target) × (16384 ≤ length (now first)) × (16384 ≤ length (now second)) × (c < length (now marks)) ⌝ }
+    requires { ⌜ Entered (grading logic (termsOf (now terms))) (rulesOf (now rules)) (now slots) (now own) (now child) (now source) (now target) (now marks) c t ⌝ }
+    requires { ⌜ Indexed (now first) (now second) t ⌝ }
+    ensures { λ r. ⌜ Entered (grading logic (termsOf (now (terms .entry)))) (rulesOf (now (rules .entry))) (now (slots .entry)) (now (own .exit)) (now (child .exit))
+        (now (source .exit)) (now (target .exit)) (now (marks .exit)) (c + 1) r ⌝ }
+    ensures { λ r. ⌜ Indexed (now (first .exit)) (now (second .exit)) r ⌝ }
 {
     let mut row = [0u8; 64];
+    let mut part = [0u8; 32];
     fill_row(terms, logic, c, &mut row);
     let mark = mark_by_rules(rules, &row);
-    copy_row(slots, &row, own, child, c);
     marks[c] = mark;
-    left + mark as usize
+    let mut now = t;
+    now.left += mark as usize;
+    put_slot_row(slots, &row, &mut part);
+    classify(
+        base(logic),
+        slots.len() / 4,
+        &part,
+        own,
+        child,
+        source,
+        target,
+        first,
+        second,
+        c,
+        now,
+    )
 }
 
-// Enters every candidate. The number of marks.
+// Enters every candidate, with indexes that are lent: they are empty.
+fn enter_in(
+    logic: Logic,
+    terms: &[u8],
+    slots: &[u8],
+    rules: &[u8],
+    own: &mut [u8],
+    child: &mut [u8],
+    source: &mut [u16],
+    target: &mut [u16],
+    first: &mut [u16],
+    second: &mut [u16],
+    marks: &mut [u8],
+) -> Tally
+    requires { ⌜ Task logic (now terms) (now slots) (now rules) (length (now marks)) ⌝ }
+    requires { ⌜ Roomy (now own) (now child) (now source) (now target) × (16384 ≤ length (now first)) × (16384 ≤ length (now second)) ⌝ }
+    requires { ⌜ ((i : ℕ) → getD (now first) i 0 ≡ 0) × ((i : ℕ) → getD (now second) i 0 ≡ 0) ⌝ }
+    ensures { λ r. ⌜ Entered (grading logic (termsOf (now (terms .entry)))) (rulesOf (now (rules .entry))) (now (slots .entry)) (now (own .exit)) (now (child .exit))
+        (now (source .exit)) (now (target .exit)) (now (marks .exit)) (length (now (marks .entry))) r ⌝ }
+{
+    let count = marks.len();
+    let mut t = Tally {
+        left: 0,
+        sources: 0,
+        targets: 0,
+    };
+    let mut c = 0;
+    while c < count {
+        t = enter(
+            logic,
+            terms,
+            slots,
+            rules,
+            own,
+            child,
+            source,
+            target,
+            first,
+            second,
+            marks,
+            c,
+            t,
+        );
+        c += 1;
+    }
+    t
+}
+
+// The same, with indexes of its own.
 fn enter_all(
     logic: Logic,
     terms: &[u8],
@@ -86,25 +181,35 @@ fn enter_all(
     rules: &[u8],
     own: &mut [u8],
     child: &mut [u8],
+    source: &mut [u16],
+    target: &mut [u16],
     marks: &mut [u8],
-) -> usize
+) -> Tally
     requires { ⌜ Task logic (now terms) (now slots) (now rules) (length (now marks)) ⌝ }
-    requires { ⌜ (16 * length (now marks) ≤ length (now own)) × (16 * length (now marks) ≤ length (now child)) ⌝ }
-    ensures { λ r. ⌜ Entered (grading logic (termsOf (now (terms .entry)))) (rulesOf (now (rules .entry))) (now (slots .entry)) (now (own .exit)) (now (child .exit)) (now (marks .exit)) (length (now (marks .entry))) r ⌝ }
+    requires { ⌜ Roomy (now own) (now child) (now source) (now target) ⌝ }
+    ensures { λ r. ⌜ Entered (grading logic (termsOf (now (terms .entry)))) (rulesOf (now (rules .entry))) (now (slots .entry)) (now (own .exit)) (now (child .exit))
+        (now (source .exit)) (now (target .exit)) (now (marks .exit)) (length (now (marks .entry))) r ⌝ }
 {
-    let count = marks.len();
-    let mut left = 0;
-    let mut c = 0;
-    while c < count {
-        left = enter(logic, terms, slots, rules, own, child, marks, c, left);
-        c += 1;
-    }
-    left
+    let mut first = [0u16; 16384];
+    let mut second = [0u16; 16384];
+    enter_in(
+        logic,
+        terms,
+        slots,
+        rules,
+        own,
+        child,
+        source,
+        target,
+        &mut first,
+        &mut second,
+        marks,
+    )
 }
 
 // ---- the survivors
 
-// Marks the survivors, on tables that are lent: `memory` has zeros, the others anything. Their number.
+// Marks the survivors, on tables that are lent and have anything. Their number.
 fn mark_on_tables(
     logic: Logic,
     terms: &[u8],
@@ -112,26 +217,48 @@ fn mark_on_tables(
     rules: &[u8],
     own: &mut [u8],
     child: &mut [u8],
-    memory: &mut [u16],
+    source: &mut [u16],
+    target: &mut [u16],
     marks: &mut [u8],
 ) -> usize
     requires { ⌜ Task logic (now terms) (now slots) (now rules) (length (now marks)) ⌝ }
-    requires { ⌜ (262144 ≤ length (now own)) × (262144 ≤ length (now child)) × (262144 ≤ length (now memory)) ⌝ }
-    requires { ⌜ ((i : ℕ) → i < 262144 → getD (now memory) i 0 ≡ 0) ⌝ }
+    requires { ⌜ Roomy (now own) (now child) (now source) (now target) ⌝ }
     ensures { λ r. ⌜ Eliminated logic (now (terms .entry)) (now (rules .entry)) (length (now (marks .entry))) r (now (marks .exit)) ⌝ }
 {
-    let left = enter_all(logic, terms, slots, rules, own, child, marks);
-    settle(logic, slots, own, child, marks, memory, left)
+    let t = enter_all(
+        logic,
+        terms,
+        slots,
+        rules,
+        own,
+        child,
+        source,
+        target,
+        marks,
+    );
+    settle(
+        logic,
+        slots,
+        own,
+        child,
+        source,
+        target,
+        t.sources,
+        t.targets,
+        marks,
+        t.left,
+    )
 }
 
-// The same, with tables of its own: 16 bytes for each of 16384 candidates.
+// The same, with tables of its own: 16 bytes for each of 16384 sources and targets.
 fn mark_survivors(logic: Logic, terms: &[u8], slots: &[u8], rules: &[u8], marks: &mut [u8]) -> usize
     requires { ⌜ Task logic (now terms) (now slots) (now rules) (length (now marks)) ⌝ }
     ensures { λ r. ⌜ Eliminated logic (now (terms .entry)) (now (rules .entry)) (length (now (marks .entry))) r (now (marks .exit)) ⌝ }
 {
     let mut own = [0u8; 262144];
     let mut child = [0u8; 262144];
-    let mut memory = [0u16; 262144];
+    let mut source = [0u16; 16384];
+    let mut target = [0u16; 16384];
     mark_on_tables(
         logic,
         terms,
@@ -139,7 +266,8 @@ fn mark_survivors(logic: Logic, terms: &[u8], slots: &[u8], rules: &[u8], marks:
         rules,
         &mut own,
         &mut child,
-        &mut memory,
+        &mut source,
+        &mut target,
         marks,
     )
 }

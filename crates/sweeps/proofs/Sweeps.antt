@@ -1,116 +1,212 @@
--- Laws of visits and sweeps.
+-- Laws of the steps of a sweep, of sweeps, of their start and of their end.
 -- Assumes nothing.
 use mathlib.Core.Path.{_≡_, refl, sym, subst, _∙_}
 use mathlib.Core.Logic.{dite}
 use mathlib.Core.List.{List}
-use Prim.Native.Nat.{ℕ, _+_, _-_, _<_}
-use native.Mathlib.Decide.{ℕ-discrete}
+use Prim.Native.Nat.{ℕ, _+_, _-_, _*_, _≤_, _<_}
+use native.Mathlib.Decide.{ℕ-discrete, decLt}
+use native.Mathlib.Nat.{le-refl, le-trans}
 use native.Mathlib.Omega.{arith}
-use lib.ListN.{getD, set, length-set}
+use lib.ListN.{length, getD, set}
 use lib.Seq.{getD-set-same, getD-set-other}
 use borrow.Author.Count.{below-more}
-use Rattle.elimination.specs.Marks.{Marked}
+use Rattle.chain.specs.Search.{rank}
+use Rattle.elimination.specs.Marks.{Marked, marked?}
 use Rattle.elimination.proofs.Marks.{marked-lt, marked-set, set-marked, rank-unmarked}
 use Rattle.gradings.specs.declared.Logic.{Logic}
+use Rattle.slots.specs.Slots.{slotCount}
 use Rattle.witnesses.specs.Tables.{Tables, tables, Ready}
 use Rattle.witnesses.specs.Search.{Witness, Remembers, Supported}
-use Rattle.sweeps.specs.Sweeps.{Reduced, State, Visited, Swept, Settled}
+use Rattle.sweeps.specs.Sweeps.{Classes, classOf, SupportedIn, Reduced, Noted, Judged, Dropped, Counted, State, Swept, Settled}
 
-module _ (T : Tables) where
-  -- ---- marks taken away
+-- ---- which classes have a marked candidate
 
-  pub reduced-none : (marks : List ℕ) → Reduced T marks marks
-  reduced-none marks = record { part = λ c h. h; keeps = λ xs k h. h }
+module _ (xs marks : List ℕ) where
+  pub noted-none : (seen : List ℕ) → ((k : ℕ) → getD seen k 0 ≡ 0) → Noted xs marks seen 0
+  noted-none seen z = record { from = λ k h. absurd (omega (arith, z k)); onto = λ c l. absurd (omega arith) }
 
-  pub reduced-then : (a b c : List ℕ) → Reduced T a b → Reduced T b c → Reduced T a c
-  reduced-then a b c f g = record { part = λ d h. f .part d (g .part d h); keeps = λ xs k h. g .keeps xs k (f .keeps xs k h) }
+  module _ (seen : List ℕ) (c : ℕ) (S : Noted xs marks seen c) where
+    pub noted-other : ¬ Marked marks c → Noted xs marks seen (c + 1)
+    noted-other n = record { from = S .from; onto = below-more (λ d. Marked marks d → Marked seen (classOf xs d)) c (S .onto) (λ h. absurd (n h)) }
 
-  -- a candidate that is not supported is in no closed set of marked ones
-  pub reduced-set : (marks : List ℕ) (c : ℕ) → ¬ Supported T marks c → Reduced T marks (set marks c 0)
-  reduced-set marks c n = record {
-    part = λ d h. marked-set marks c d h .0;
-    keeps = λ xs k h d m. set-marked marks c d (h d m)
-        (λ e. n (λ q l. let u = k d m .1 q l in (u .0, h (u .0) (u .1), subst (λ (z : ℕ). Witness T z q (u .0)) e (u .2))));
+    pub noted-more : Marked marks c → classOf xs c < length seen → Noted xs marks (set seen (classOf xs c) 1) (c + 1)
+    noted-more o h = record {
+      from = λ k m. dite (ℕ-discrete k (classOf xs c)) (λ e. (c, o, sym e)) (λ n. S .from k (sym (getD-set-other seen (classOf xs c) k 1 0 n) ∙ m));
+      onto = below-more (λ d. Marked marks d → Marked (set seen (classOf xs c) 1) (classOf xs d)) c (λ d l m. stays (classOf xs d) (S .onto d l m))
+          (λ _. getD-set-same seen (classOf xs c) 1 0 h);
+    }
+      where
+        stays : (k : ℕ) → Marked seen k → Marked (set seen (classOf xs c) 1) k
+        stays k m =
+            dite (ℕ-discrete k (classOf xs c)) (λ e. subst (Marked (set seen (classOf xs c) 1)) (sym e) (getD-set-same seen (classOf xs c) 1 0 h))
+            (λ n. getD-set-other seen (classOf xs c) k 1 0 n ∙ m)
+
+-- ---- sources
+
+module _ (T : Tables) (present : List ℕ) where
+  pub judged-none : (alive : List ℕ) (a : ℕ) → Judged T present a a alive alive
+  judged-none alive a k = (λ h. (h, λ l m. absurd (omega arith)), λ h. h .0)
+
+  pub judged-then : (a b c : ℕ) → a ≤ b → b ≤ c → (alive mid after : List ℕ) → Judged T present a b alive mid → Judged T present b c mid after
+      → Judged T present a c alive after
+  judged-then a b c ab bc alive mid after f g k = (
+    λ h. let u = g k .0 h in let v = f k .0 (u .0) in (v .0, λ l m. dite (decLt k b) (λ p. v .1 l p) (λ p. u .1 (omega arith) m)),
+    λ h. g k .1 (f k .1 (h .0, λ l m. h .1 l (omega arith)), λ l m. h .1 (omega arith) m),
+  )
+
+  -- one source
+  pub judged-kept : (alive : List ℕ) (a : ℕ) → (Marked alive a → Supported T present a) → Judged T present a (a + 1) alive alive
+  judged-kept alive a f k = (
+    λ h. (h, λ l m. let e : k ≡ a = omega arith in subst (Supported T present) (sym e) (f (subst (Marked alive) e h))),
+    λ h. h .0,
+  )
+
+  pub judged-set : (alive : List ℕ) (a : ℕ) → ¬ Supported T present a → Judged T present a (a + 1) alive (set alive a 0)
+  judged-set alive a n k = (
+    λ h. let u = marked-set alive a k h in (u .0, λ l m. absurd (u .1 (omega arith))),
+    λ h. set-marked alive a k (h .0) (λ e. n (subst (Supported T present) e (h .1 (omega arith) (omega arith)))),
+  )
+
+-- the same tables, where the number of targets is written otherwise
+module _ (lg : Logic) (sources m n : ℕ) (slots own child : List ℕ) (e : m ≡ n) where
+  pub ready-sized : Ready (tables lg sources m slots own child) → Ready (tables lg sources n slots own child)
+  ready-sized = subst (λ (k : ℕ). Ready (tables lg sources k slots own child)) e
+
+  pub remembers-sized : (present memory : List ℕ) → Remembers (tables lg sources m slots own child) present memory
+      → Remembers (tables lg sources n slots own child) present memory
+  remembers-sized present memory = subst (λ (k : ℕ). Remembers (tables lg sources k slots own child) present memory) e
+
+  pub judged-sized : (present : List ℕ) (a b : ℕ) (alive after : List ℕ) → Judged (tables lg sources m slots own child) present a b alive after
+      → Judged (tables lg sources n slots own child) present a b alive after
+  judged-sized present a b alive after = subst (λ (k : ℕ). Judged (tables lg sources k slots own child) present a b alive after) e
+
+-- ---- candidates
+
+module _ (xs alive : List ℕ) where
+  pub dropped-none : (marks : List ℕ) (a left : ℕ) → Dropped xs alive a a marks marks left left
+  dropped-none marks a left = record {
+    marked = λ c. (λ h. (h, λ l m. absurd (omega arith)), λ h. h .0);
+    lower = λ c. le-refl _;
+    fewer = omega arith;
+    same = λ _. refl;
   }
 
-  -- ---- a visit of candidate c
+  pub dropped-then : (a b c : ℕ) → a ≤ b → b ≤ c → (marks mid after : List ℕ) (left r q : ℕ) → Dropped xs alive a b marks mid left r → Dropped xs alive b c mid after r q
+      → Dropped xs alive a c marks after left q
+  dropped-then a b c ab bc marks mid after left r q f g = record {
+    marked = λ k. (
+      λ h. let u = g .marked k .0 h in let v = f .marked k .0 (u .0) in (v .0, λ l m. dite (decLt k b) (λ p. v .1 l p) (λ p. u .1 (omega arith) m)),
+      λ h. g .marked k .1 (f .marked k .1 (h .0, λ l m. h .1 l (omega arith)), λ l m. h .1 (omega arith) m),
+    );
+    lower = λ k. le-trans (g .lower k) (f .lower k);
+    fewer = omega (arith, f .fewer, g .fewer);
+    same = λ e. g .same (omega (arith, f .fewer, g .fewer)) ∙ f .same (omega (arith, f .fewer, g .fewer));
+  }
 
-  module _ (marks memory : List ℕ) (left c : ℕ) (S : State T marks memory left) (hc : c < T .count) where
-    -- it is not marked, or supported
-    pub visited-kept : (Marked marks c → Supported T marks c) → Visited T c marks marks left left
-    visited-kept h = record { reduced = reduced-none marks; fewer = omega arith; same = λ _. refl; supported = λ _. h }
+  -- one candidate
+  module _ (marks : List ℕ) (c left : ℕ) where
+    pub dropped-kept : (Marked marks c → Marked alive (classOf xs c)) → Dropped xs alive c (c + 1) marks marks left left
+    dropped-kept f = record {
+      marked = λ k. (
+        λ h. (h, λ l m. let e : k ≡ c = omega arith in subst (λ (z : ℕ). Marked alive (classOf xs z)) (sym e) (f (subst (Marked marks) e h))),
+        λ h. h .0,
+      );
+      lower = λ k. le-refl _;
+      fewer = omega arith;
+      same = λ _. refl;
+    }
 
-    pub state-memory : (after : List ℕ) → Remembers T marks after → State T marks after left
-    state-memory after h = record { size = S .size; bits = S .bits; remembers = h; counted = S .counted }
-
-    -- it is marked, and not supported
-    module _ (o : Marked marks c) where
+    module _ (o : Marked marks c) (counted : left ≡ rank (marked? marks) (length marks)) where
       pub some-left : 0 < left
-      some-left = omega (arith, S .counted, rank-unmarked marks c (T .count) o hc)
+      some-left = omega (arith, rank-unmarked marks c (length marks) o (marked-lt marks c o))
 
-      pub state-set : State T (set marks c 0) memory (left - 1)
-      state-set = record {
-        size = length-set marks c 0 ∙ S .size;
-        bits = λ d. dite (ℕ-discrete d c)
-            (λ e. omega (arith, subst (λ (z : ℕ). getD (set marks c 0) z 0 ≡ 0) (sym e) (getD-set-same marks c 0 0 (omega (arith, S .size)))))
-            (λ n. omega (arith, getD-set-other marks c d 0 0 n, S .bits d));
-        remembers = λ e p he hp. let m = S .remembers e p he hp in
-            record { within = m .within; known = m .known; passed = λ d l h. m .passed d l (marked-set marks c d h .0) };
-        counted = omega (arith, S .counted, rank-unmarked marks c (T .count) o hc);
-      }
+      pub one-less : left - 1 ≡ rank (marked? (set marks c 0)) (length marks)
+      one-less = omega (arith, rank-unmarked marks c (length marks) o (marked-lt marks c o))
 
-      pub visited-set : ¬ Supported T marks c → Visited T c marks (set marks c 0) left (left - 1)
-      visited-set n = record {
-        reduced = reduced-set marks c n;
+      pub dropped-set : ¬ Marked alive (classOf xs c) → Dropped xs alive c (c + 1) marks (set marks c 0) left (left - 1)
+      dropped-set n = record {
+        marked = λ k. (
+          λ h. let u = marked-set marks c k h in (u .0, λ l m. absurd (u .1 (omega arith))),
+          λ h. set-marked marks c k (h .0) (λ e. n (subst (λ (z : ℕ). Marked alive (classOf xs z)) e (h .1 (omega arith) (omega arith)))),
+        );
+        lower = λ k. dite (ℕ-discrete k c)
+            (λ e. omega (arith, subst (λ (z : ℕ). getD (set marks c 0) z 0 ≡ 0) (sym e) (getD-set-same marks c 0 0 (marked-lt marks c o))))
+            (λ d. omega (arith, getD-set-other marks c k 0 0 d));
         fewer = omega arith;
         same = λ e. absurd (omega (arith, some-left));
-        supported = λ e. absurd (omega (arith, some-left));
       }
 
-  -- ---- a sweep, and the end
+-- ---- marks taken away
 
-  pub swept-none : (marks : List ℕ) (left : ℕ) → Swept T 0 marks marks left left
-  swept-none marks left = record { reduced = reduced-none marks; fewer = omega arith; supported = λ _ c h. absurd (omega arith) }
+module _ (K : Classes) where
+  pub reduced-none : (marks : List ℕ) → Reduced K marks marks
+  reduced-none marks = record { part = λ c h. h; keeps = λ xs k h. h }
 
-  pub swept-more : (b : ℕ) (marks mid after : List ℕ) (left r q : ℕ) → Swept T b marks mid left r → Visited T b mid after r q → Swept T (b + 1) marks after left q
-  swept-more b marks mid after left r q W H = record {
-    reduced = reduced-then marks mid after (W .reduced) (H .reduced);
-    fewer = omega (arith, W .fewer, H .fewer);
-    supported = λ e.
-        let f : q ≡ r = omega (arith, W .fewer, H .fewer) in
-        let g : r ≡ left = omega arith in
-        subst (λ (x : List ℕ). (c : ℕ) → c < b + 1 → Marked x c → Supported T x c) (sym (H .same f))
-        (below-more (λ c. Marked mid c → Supported T mid c) b (W .supported g) (H .supported f));
+  pub reduced-then : (a b c : List ℕ) → Reduced K a b → Reduced K b c → Reduced K a c
+  reduced-then a b c f g = record { part = λ d h. f .part d (g .part d h); keeps = λ xs k h. g .keeps xs k (f .keeps xs k h) }
+
+  -- ---- a sweep: what is present and alive is noted by the marks, the sources are judged, the candidates of others dropped
+
+  module _ (marks present alive kept after : List ℕ) (m left r : ℕ) (sources : (c : ℕ) → c < length marks → classOf (K .source) c < m)
+      (P : Noted (K .target) marks present (length marks)) (A : Noted (K .source) marks alive (length marks)) (J : Judged (K .rows) present 0 m alive kept)
+      (D : Dropped (K .source) kept 0 (length marks) marks after left r) where
+    swept-reduced : Reduced K marks after
+    swept-reduced = record {
+      part = λ c h. D .marked c .0 h .0;
+      keeps = λ xs k h c e. D .marked c .1 (
+        h c e,
+        λ _ l. J (classOf (K .source) c) .1 (
+          A .onto c l (h c e),
+          λ _ _ q i.
+              let u = k c e q i in
+              let o = h (u .0) (u .1) in
+              (classOf (K .target) (u .0), P .onto (u .0) (marked-lt marks (u .0) o) o, u .2),
+        ),
+      );
+    }
+
+    pub swept : Swept K marks after left r
+    swept = record {
+      reduced = swept-reduced;
+      fewer = D .fewer;
+      supported = λ e. subst (λ (x : List ℕ). (c : ℕ) → Marked x c → SupportedIn K x c) (sym (D .same e)) (λ c o q i.
+          let l = marked-lt marks c o in
+          let h = D .marked c .0 (subst (λ (x : List ℕ). Marked x c) (sym (D .same e)) o) .1 (omega arith) l in
+          let u = J (classOf (K .source) c) .0 h .1 (omega arith) (sources c l) q i in
+          let v = P .from (u .0) (u .1) in
+          (v .0, v .1, subst (Witness (K .rows) (classOf (K .source) c) q) (sym (v .2)) (u .2)));
+    }
+
+    pub swept-state : (memory memory' : List ℕ) → State K (length marks) marks memory left → Remembers (K .rows) present memory' → r ≡ rank (marked? after) (length marks)
+        → State K (length marks) after memory' r
+    swept-state memory memory' S M counted = record {
+      counted = record { bits = λ c. le-trans (D .lower c) (S .counted .bits c); number = counted };
+      remembers = λ later f e p he hp. let w = M e p he hp in record {
+        within = w .within;
+        known = w .known;
+        passed = λ d l h.
+            let u = f d h in
+            let o = D .marked (u .0) .0 (u .1) .0 in
+            w .passed d l (subst (Marked present) (u .2) (P .onto (u .0) (marked-lt marks (u .0) o) o));
+      };
+    }
+
+  -- ---- the start, and the end
+
+  -- nothing is remembered yet
+  pub state-none : (n : ℕ) (marks memory : List ℕ) (left : ℕ) → slotCount (K .rows .slots) ≤ 16 → Counted n marks left
+      → ((i : ℕ) → i < 16 * K .rows .sources → getD memory i 0 ≡ 0) → State K n marks memory left
+  state-none n marks memory left few counted zeros = record {
+    counted = counted;
+    remembers = λ present _ a q ha hq.
+        let z = zeros (16 * a + q) (omega arith) in
+        record { within = omega arith; known = λ l. absurd (omega arith); passed = λ d l. absurd (omega arith) };
   }
 
-  pub settled : (marks mid after memory : List ℕ) (left r : ℕ) → r ≡ left → Reduced T marks mid → State T after memory r
-      → Swept T (T .count) mid after left r → Settled T marks after r
-  settled marks mid after memory left r e f S W = record {
+  pub settled : (n : ℕ) (marks mid after memory : List ℕ) (left r : ℕ) → r ≡ left → Reduced K marks mid → State K n after memory r
+      → Swept K mid after left r → Settled K n marks after r
+  settled n marks mid after memory left r e f S W = record {
     reduced = reduced-then marks mid after f (W .reduced);
-    bits = S .bits;
-    supported = λ c o. W .supported e c (omega (arith, marked-lt after c o, S .size)) o;
     counted = S .counted;
+    supported = W .supported e;
   }
-
--- ---- the same tables, where the number of candidates is written otherwise
-
-module _ (lg : Logic) (m n : ℕ) (slots own child : List ℕ) (e : m ≡ n) where
-  pub ready-sized : Ready (tables lg m slots own child) → Ready (tables lg n slots own child)
-  ready-sized = subst (λ (k : ℕ). Ready (tables lg k slots own child)) e
-
-  pub state-sized : (marks memory : List ℕ) (left : ℕ) → State (tables lg m slots own child) marks memory left → State (tables lg n slots own child) marks memory left
-  state-sized marks memory left = subst (λ (k : ℕ). State (tables lg k slots own child) marks memory left) e
-
-  pub reduced-sized : (marks after : List ℕ) → Reduced (tables lg m slots own child) marks after → Reduced (tables lg n slots own child) marks after
-  reduced-sized marks after = subst (λ (k : ℕ). Reduced (tables lg k slots own child) marks after) e
-
-  pub visited-sized : (c : ℕ) (marks after : List ℕ) (left r : ℕ) → Visited (tables lg m slots own child) c marks after left r
-      → Visited (tables lg n slots own child) c marks after left r
-  visited-sized c marks after left r = subst (λ (k : ℕ). Visited (tables lg k slots own child) c marks after left r) e
-
-  pub swept-sized : (marks after : List ℕ) (left r : ℕ) → Swept (tables lg m slots own child) m marks after left r
-      → Swept (tables lg n slots own child) n marks after left r
-  swept-sized marks after left r = subst (λ (k : ℕ). Swept (tables lg k slots own child) k marks after left r) e
-
-  pub settled-sized : (marks after : List ℕ) (r : ℕ) → Settled (tables lg m slots own child) marks after r → Settled (tables lg n slots own child) marks after r
-  settled-sized marks after r = subst (λ (k : ℕ). Settled (tables lg k slots own child) marks after r) e

@@ -93,7 +93,7 @@ others-set v j a old new h f u i n l = getD-set-other new (16 * v + j) (16 * u +
 -- the rows in their boxes are the witnesses', and so the next hit is the next witness
 module _ (T : Tables) (R : Ready T) (c q : ℕ) (hq : q < slotCount (T .slots)) (wanted low high : List ℕ)
     (b : Boxes (T .logic) (T .slots) (T .own) c q wanted low high (T .logic .steps + 1)) where
-  inside-witness : (d : ℕ) → d < T .count → Inside (T .logic .steps) (slotCount (T .slots)) q wanted low high (T .child) d ↔ Witness T c q d
+  inside-witness : (d : ℕ) → d < T .targets → Inside (T .logic .steps) (slotCount (T .slots)) q wanted low high (T .child) d ↔ Witness T c q d
   inside-witness d h =
       let x = cell (T .child) d q in
       let v = getD wanted x 0 in
@@ -110,7 +110,7 @@ module _ (T : Tables) (R : Ready T) (c q : ℕ) (hq : q < slotCount (T .slots)) 
             ),
       )
 
-  pub next-witness : (marks : List ℕ) → length marks ≡ T .count → (start r : ℕ)
+  pub next-witness : (marks : List ℕ) → length marks ≡ T .targets → (start r : ℕ)
       → NextHit (T .logic .steps) (slotCount (T .slots)) q wanted low high (T .child) marks start r → NextWitness T marks c q start r
   next-witness marks size start r f = record {
     passed = λ d l s o w. f .passed d l s (o, inside-witness d (omega (arith, marked-lt marks d o)) .1 w);
@@ -120,9 +120,9 @@ module _ (T : Tables) (R : Ready T) (c q : ℕ) (hq : q < slotCount (T .slots)) 
 -- ---- the memory
 
 -- slot q of c, where w is remembered of it
-module _ (T : Tables) (marks memory : List ℕ) (M : Remembers T marks memory) (c q : ℕ) (hc : c < T .count) (hq : q < slotCount (T .slots)) where
-  -- what is remembered is a candidate, or nothing
-  pub remembered-le : cell memory c q ≤ T .count
+module _ (T : Tables) (marks memory : List ℕ) (M : Remembers T marks memory) (c q : ℕ) (hc : c < T .sources) (hq : q < slotCount (T .slots)) where
+  -- what is remembered is a target, or nothing
+  pub remembered-le : cell memory c q ≤ T .targets
   remembered-le = M c q hc hq .within
 
   -- a witness that is still marked
@@ -138,10 +138,10 @@ module _ (T : Tables) (marks memory : List ℕ) (M : Remembers T marks memory) (
         (λ g. let e : d ≡ cell memory c q - 1 = omega arith in gone (omega arith, subst (Marked marks) e o))
         (λ g. f .passed d l (omega arith) o w))
 
-    pub none-backed : length marks ≡ T .count → T .count ≤ r → ¬ Backed T marks c q
+    pub none-backed : length marks ≡ T .targets → T .targets ≤ r → ¬ Backed T marks c q
     none-backed size h b = none-before (b .0) (omega (arith, marked-lt marks (b .0) (b .1))) (b .1) (b .2)
 
-    module _ (h : r < T .count) where
+    module _ (h : r < T .targets) where
       pub found-backed : Backed T marks c q
       found-backed = let u = f .found h in (r, u .0, u .1)
 
@@ -152,7 +152,7 @@ module _ (T : Tables) (marks memory : List ℕ) (M : Remembers T marks memory) (
         passed = λ d l. none-before d (omega arith);
       }
 
-      pub found-remembers : slotCount (T .slots) ≤ 16 → 16 * T .count ≤ length memory → Remembers T marks (set memory (16 * c + q) (r + 1))
+      pub found-remembers : slotCount (T .slots) ≤ 16 → 16 * T .sources ≤ length memory → Remembers T marks (set memory (16 * c + q) (r + 1))
       found-remembers few room e p he hp =
           dite (ℕ-discrete (16 * e + p) (16 * c + q))
           (λ i. same e p (omega arith) (omega arith)

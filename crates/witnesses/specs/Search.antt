@@ -1,5 +1,5 @@
--- The search for witnesses by the tables: when a candidate is a witness, the boxes of grades in which the children of a witness lie, the next
--- marked candidate in its box, and what is remembered of earlier searches.
+-- The search for witnesses by the tables: when a target is a witness of a source, the boxes of grades in which the children of a witness lie, the
+-- next marked target in its box, and what is remembered of earlier searches.
 -- Assumes nothing.
 use mathlib.Core.Path.{_≡_}
 use mathlib.Core.Logic.{_↔_}
@@ -15,7 +15,7 @@ use Rattle.witnesses.specs.Tables.{cell, Tables}
 
 -- ---- a witness
 
--- for slot q of candidate c
+-- for slot q of source c
 module _ (l : Logic) (slots own : List ℕ) (c q : ℕ) where
   -- slot j, with a child of grade y, allows a link of grade s for the role of slot q
   abbrev pub AllowsAt : (s j y : ℕ) → Type 0
@@ -25,7 +25,7 @@ module _ (l : Logic) (slots own : List ℕ) (c q : ℕ) where
   abbrev pub WantsAt : (x v : ℕ) → Type 0
   WantsAt x v = Wants (l .steps) (connectivesOf l) (slotQuantifier slots q) (cell own c q) x v
 
--- candidate d is a witness of slot q of c, by the tables: through some link that every slot allows it reaches its grade
+-- target d is a witness of slot q of source c, by the tables: through some link that every slot allows it reaches its grade
 abbrev pub Witness : Tables → (c q d : ℕ) → Type 0
 Witness T c q d =
     (s : ℕ)
@@ -71,26 +71,26 @@ module _ (N m q : ℕ) (wanted low high child : List ℕ) where
   abbrev pub Hit : (marks : List ℕ) → ℕ → Type 0
   Hit marks d = Marked marks d × Inside d
 
-  -- r is the first hit from `start` on, or past the last candidate
+  -- r is the first hit from `start` on, or past the last target
   pub record NextHit (marks : List ℕ) (start r : ℕ) : Type 0 where
     pub passed : (d : ℕ) → d < r → start ≤ d → ¬ Hit marks d
     pub found : r < length marks → Hit marks r
 
--- r is the first marked witness of slot q of c from `start` on, or past the last candidate
+-- r is the first marked witness of slot q of c from `start` on, or past the last target
 pub record NextWitness (T : Tables) (marks : List ℕ) (c q start r : ℕ) : Type 0 where
   pub passed : (d : ℕ) → d < r → start ≤ d → Marked marks d → ¬ Witness T c q d
-  pub found : r < T .count → Marked marks r × Witness T c q r
+  pub found : r < T .targets → Marked marks r × Witness T c q r
 
--- ---- what is remembered of a slot of a candidate: 0 for nothing, or one more than a witness
+-- ---- what is remembered of a slot of a source: 0 for nothing, or one more than a witness
 
 pub record Remembered (T : Tables) (marks : List ℕ) (c q w : ℕ) : Type 0 where
-  pub within : w ≤ T .count
+  pub within : w ≤ T .targets
   pub known : 0 < w → Witness T c q (w - 1)
-  -- no marked candidate before it is a witness
+  -- no marked target before it is a witness
   pub passed : (d : ℕ) → d + 1 < w → Marked marks d → ¬ Witness T c q d
 
 abbrev pub Remembers : Tables → (marks memory : List ℕ) → Type 0
-Remembers T marks memory = (c q : ℕ) → c < T .count → q < slotCount (T .slots) → Remembered T marks c q (cell memory c q)
+Remembers T marks memory = (c q : ℕ) → c < T .sources → q < slotCount (T .slots) → Remembered T marks c q (cell memory c q)
 
 -- slot q of c has a marked witness; and each slot has
 abbrev pub Backed : Tables → (marks : List ℕ) → (c q : ℕ) → Type 0

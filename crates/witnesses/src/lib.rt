@@ -1,4 +1,4 @@
-// The search for witnesses among marked candidates, by tables of grades.
+// The search for witnesses by tables of grades: of a source, a row of the slots' own grades, among the marked targets, rows of their children's.
 ghost use Prim.Native.Nat.{ℕ, _+_, _*_, _-_, _<_, _≤_};
 ghost use lib.ListN.{length};
 ghost use Rattle.chain.specs.Decisions.{Tells};
@@ -51,7 +51,7 @@ fn bounds_of(
     }
 }
 
-// Makes the box of a level for slot `q` of candidate `c`: no link is worked out, only what each slot asks of its child's grade.
+// Makes the box of a level for slot `q` of source `c`: no link is worked out, only what each slot asks of its child's grade.
 fn make_box(
     logic: Logic,
     slots: &[u8],
@@ -79,7 +79,7 @@ fn make_box(
     }
 }
 
-// Notes the level that slot `q` of candidate `c` wants where its own child has grade `x`, and makes its box, unless the grade before wants the same
+// Notes the level that slot `q` of source `c` wants where its own child has grade `x`, and makes its box, unless the grade before wants the same
 // or none on the chain is enough.
 fn make_box_for(
     logic: Logic,
@@ -194,7 +194,7 @@ fn hit(
     inside(logic, wanted, low, high, slots, q, child, d)
 }
 
-// The first such candidate from `start` on, or a number past the last.
+// The first such target from `start` on, or a number past the last.
 fn next_hit(
     logic: Logic,
     wanted: &[u8],
@@ -221,20 +221,21 @@ fn next_hit(
     d
 }
 
-// The first marked witness of slot `q` of candidate `c` from `start` on, or a number past the last candidate.
+// The first marked witness of slot `q` of source `c` from `start` on, or a number past the last target.
 fn next_witness(
     logic: Logic,
     slots: &[u8],
     own: &[u8],
     child: &[u8],
     marks: &[u8],
+    sources: usize,
     c: usize,
     q: usize,
     start: usize,
 ) -> usize
-    requires { ⌜ Ready (tables logic (length (now marks)) (now slots) (now own) (now child)) ⌝ }
-    requires { ⌜ (length (now marks) ≤ 16384) × (c < length (now marks)) × (q < slotCount (now slots)) ⌝ }
-    ensures { λ r. ⌜ NextWitness (tables logic (length (now (marks .entry))) (now (slots .entry)) (now (own .entry)) (now (child .entry))) (now (marks .entry)) c q start r ⌝ }
+    requires { ⌜ Ready (tables logic sources (length (now marks)) (now slots) (now own) (now child)) ⌝ }
+    requires { ⌜ (length (now marks) ≤ 16384) × (c < sources) × (q < slotCount (now slots)) × (sources ≤ 16384) ⌝ }
+    ensures { λ r. ⌜ NextWitness (tables logic sources (length (now (marks .entry))) (now (slots .entry)) (now (own .entry)) (now (child .entry))) (now (marks .entry)) c q start r ⌝ }
 {
     let mut wanted = [0u8; 17];
     let mut low = [0u8; 272];
@@ -253,7 +254,7 @@ fn next_witness(
     )
 }
 
-// ---- one candidate
+// ---- one source
 
 // Is a witness known, `known` one more than it, and still marked?
 fn still_marked(marks: &[u8], known: usize) -> bool
@@ -266,7 +267,7 @@ fn still_marked(marks: &[u8], known: usize) -> bool
     marks[known - 1] == 1
 }
 
-// Has slot `q` of candidate `c` a marked witness? A remembered one that is still marked is not sought again; else the search goes on from there.
+// Has slot `q` of source `c` a marked witness? A remembered one that is still marked is not sought again; else the search goes on from there.
 fn backed(
     logic: Logic,
     slots: &[u8],
@@ -274,21 +275,22 @@ fn backed(
     child: &[u8],
     marks: &[u8],
     memory: &mut [u16],
+    sources: usize,
     c: usize,
     q: usize,
 ) -> bool
-    requires { ⌜ Ready (tables logic (length (now marks)) (now slots) (now own) (now child)) ⌝ }
-    requires { ⌜ (length (now marks) ≤ 16384) × (c < length (now marks)) × (q < slotCount (now slots)) × (16 * length (now marks) ≤ length (now memory)) ⌝ }
-    requires { ⌜ Remembers (tables logic (length (now marks)) (now slots) (now own) (now child)) (now marks) (now memory) ⌝ }
-    ensures { λ r. ⌜ Tells r (Backed (tables logic (length (now (marks .entry))) (now (slots .entry)) (now (own .entry)) (now (child .entry))) (now (marks .entry)) c q) ⌝ }
-    ensures { λ r. ⌜ Remembers (tables logic (length (now (marks .entry))) (now (slots .entry)) (now (own .entry)) (now (child .entry))) (now (marks .entry)) (now (memory .exit)) ⌝ }
+    requires { ⌜ Ready (tables logic sources (length (now marks)) (now slots) (now own) (now child)) ⌝ }
+    requires { ⌜ (length (now marks) ≤ 16384) × (c < sources) × (q < slotCount (now slots)) × (16 * sources ≤ length (now memory)) × (sources ≤ 16384) ⌝ }
+    requires { ⌜ Remembers (tables logic sources (length (now marks)) (now slots) (now own) (now child)) (now marks) (now memory) ⌝ }
+    ensures { λ r. ⌜ Tells r (Backed (tables logic sources (length (now (marks .entry))) (now (slots .entry)) (now (own .entry)) (now (child .entry))) (now (marks .entry)) c q) ⌝ }
+    ensures { λ r. ⌜ Remembers (tables logic sources (length (now (marks .entry))) (now (slots .entry)) (now (own .entry)) (now (child .entry))) (now (marks .entry)) (now (memory .exit)) ⌝ }
 {
     let at = 16 * c + q;
     let known = memory[at] as usize;
     if still_marked(marks, known) {
         return true;
     }
-    let w = next_witness(logic, slots, own, child, marks, c, q, known);
+    let w = next_witness(logic, slots, own, child, marks, sources, c, q, known);
     if w >= marks.len() {
         return false;
     }
@@ -296,7 +298,7 @@ fn backed(
     true
 }
 
-// Has each slot of candidate `c` a marked witness? Moves its remembered witnesses forward.
+// Has each slot of source `c` a marked witness? Moves its remembered witnesses forward.
 pub fn supported(
     logic: Logic,
     slots: &[u8],
@@ -304,18 +306,19 @@ pub fn supported(
     child: &[u8],
     marks: &[u8],
     memory: &mut [u16],
+    sources: usize,
     c: usize,
 ) -> bool
-    requires { ⌜ Ready (tables logic (length (now marks)) (now slots) (now own) (now child)) ⌝ }
-    requires { ⌜ (length (now marks) ≤ 16384) × (c < length (now marks)) × (16 * length (now marks) ≤ length (now memory)) ⌝ }
-    requires { ⌜ Remembers (tables logic (length (now marks)) (now slots) (now own) (now child)) (now marks) (now memory) ⌝ }
-    ensures { λ r. ⌜ Tells r (Supported (tables logic (length (now (marks .entry))) (now (slots .entry)) (now (own .entry)) (now (child .entry))) (now (marks .entry)) c) ⌝ }
-    ensures { λ r. ⌜ Remembers (tables logic (length (now (marks .entry))) (now (slots .entry)) (now (own .entry)) (now (child .entry))) (now (marks .entry)) (now (memory .exit)) ⌝ }
+    requires { ⌜ Ready (tables logic sources (length (now marks)) (now slots) (now own) (now child)) ⌝ }
+    requires { ⌜ (length (now marks) ≤ 16384) × (c < sources) × (16 * sources ≤ length (now memory)) × (sources ≤ 16384) ⌝ }
+    requires { ⌜ Remembers (tables logic sources (length (now marks)) (now slots) (now own) (now child)) (now marks) (now memory) ⌝ }
+    ensures { λ r. ⌜ Tells r (Supported (tables logic sources (length (now (marks .entry))) (now (slots .entry)) (now (own .entry)) (now (child .entry))) (now (marks .entry)) c) ⌝ }
+    ensures { λ r. ⌜ Remembers (tables logic sources (length (now (marks .entry))) (now (slots .entry)) (now (own .entry)) (now (child .entry))) (now (marks .entry)) (now (memory .exit)) ⌝ }
 {
     let count = slots.len() / 4;
     let mut q = 0;
     while q < count {
-        if !backed(logic, slots, own, child, marks, memory, c, q) {
+        if !backed(logic, slots, own, child, marks, memory, sources, c, q) {
             return false;
         }
         q += 1;

@@ -2,13 +2,15 @@
 -- Assumes nothing.
 use mathlib.Core.Path.{sym, subst}
 use native.Mathlib.Omega.{arith}
+use lib.ListN.{length}
 use borrow.Author.Needs.{needs}
-use Rattle.gradings.specs.Gradings.{grading}
+use Rattle.semantics.specs.Candidates.{gradeIn}
 use Rattle.sections.specs.Terms.{termsOf}
 use Rattle.sections.specs.Rules.{RulesRight}
 use Rattle.sections.proofs.Terms.{length-terms, terms-ordered}
-use Rattle.slots.proofs.Slots.{slot-child}
-use Rattle.eliminator.proofs.Filling.{entered-more, row-front}
+use Rattle.gradings.specs.Gradings.{grading}
+use Rattle.slots.proofs.Rows.{slots-below, slot-row-same}
+use Rattle.eliminator.proofs.Filling.{row-front, part-own, part-child, entered-more}
 use Rattle.eliminator.proofs.enter.Statement.{statement}
 use Rattle.eliminator.proofs.enter.Tie as tie
 
@@ -23,30 +25,54 @@ slice-aggregate-mark-by-rules c = search needs
 
 mark-by-rules-requires : tie.Need-mark-by-rules-requires
 mark-by-rules-requires c κs =
-    let s = c .before .before .before .before .before .before .before .before .before .before in
-    let k = c .before .before .fill-row .kept in
-    λ i h. omega (arith, s .pre .0 .few-terms, s .pre .0 .rules-right i h)
-
-slice-aggregate-copy-row : tie.Need-slice-aggregate-copy-row
-slice-aggregate-copy-row c = search needs
-
-copy-row-requires : tie.Need-copy-row-requires
-copy-row-requires c κs =
-    let s = c .before .before .before .before .before .before .before .before .before .before .before .before .before .before in
-    let w = s .pre .0 in
-    let k = c .before .before .before .before .before .before .fill-row .kept in
-    let e = length-terms (s .args .terms .now) in
-    let S = w .slots-are in
-    (omega (arith, w .few-slots, w .few, w .few-terms, s .pre .1 .0), λ q h. omega (arith, S .terms q h, slot-child (termsOf (s .args .terms .now)) (terms-ordered (s .args .terms .now) (w .terms-right)) (s .args .slots .now) S q h, w .few-terms))
+    let f = c .before .before in
+    let s = f .before .before .before .before .before .before .before .before .before .before .before .before in
+    λ i h. omega (arith, s .pre .0 .few-terms, s .pre .0 .rules-right i h, f .fill-row .kept)
 
 slice-write-marks : tie.Need-slice-write-marks
 slice-write-marks c = search needs
 
-cast-result : tie.Need-cast-result
-cast-result c = search needs
+cast-now : tie.Need-cast-now
+cast-now c = search needs
 
-add-result : tie.Need-add-result
-add-result c = search needs
+add-now : tie.Need-add-now
+add-now c = search needs
+
+slice-aggregate-put-slot-row : tie.Need-slice-aggregate-put-slot-row
+slice-aggregate-put-slot-row c = search needs
+
+slice-aggregate-put-slot-row-2 : tie.Need-slice-aggregate-put-slot-row-2
+slice-aggregate-put-slot-row-2 c = search needs
+
+put-slot-row-requires : tie.Need-put-slot-row-requires
+put-slot-row-requires c κs =
+    let f = c .before .before .before .before .before .before in
+    let s = f .before .before .before .before .before .before .before .before .before .before .before .before in
+    let w = s .pre .0 in
+    let terms = termsOf (s .args .terms .now) in
+    let below = slots-below terms (terms-ordered (s .args .terms .now) (w .terms-right)) (s .args .slots .now) (w .slots-are) in
+    let k = f .fill-row .kept in
+    let e = length-terms (s .args .terms .now) in
+    (omega (arith, w .few-slots), λ q h. omega (arith, below q h, w .few-terms))
+
+base-requires : tie.Need-base-requires
+base-requires c κs = search needs
+
+slice-aggregate-classify : tie.Need-slice-aggregate-classify
+slice-aggregate-classify c = search needs
+
+classify-requires : tie.Need-classify-requires
+classify-requires c κs =
+    let b = c .before .before .before .before .before .before .before in
+    let p = b .before .before in
+    let s = p .before .before .before .before .before .before .before .before .before .before .before .before .before .before .before .before .before .before .before in
+    let w = s .pre .0 in
+    let r = s .pre .1 .0 in
+    let E = s .pre .1 .1 .0 in
+    let k = p .put-slot-row .kept in (
+      (b .base .ensures .1, w .few-slots, omega (arith, w .few-slots), omega (arith, w .few), E .sources .few, E .targets .few),
+      ((r .0, r .1, r .2), s .pre .1 .1 .1),
+    )
 
 same-length : tie.Need-same-length
 same-length c = search needs
@@ -57,17 +83,42 @@ same-length-2 c = search needs
 same-length-3 : tie.Need-same-length-3
 same-length-3 c = search needs
 
+same-length-4 : tie.Need-same-length-4
+same-length-4 c = search needs
+
+same-length-5 : tie.Need-same-length-5
+same-length-5 c = search needs
+
+same-length-6 : tie.Need-same-length-6
+same-length-6 c = search needs
+
+same-length-7 : tie.Need-same-length-7
+same-length-7 c = search needs
+
 returns : tie.Need-returns
 returns c =
-    let mark-by-rules = c .before .before .before .before .before .before .before .before .mark-by-rules in
-    let s = c .before .before .before .before .before .before .before .before .before .before .before .before .before .before .before .before .before .before .before in
+    let k = c .before .before .before .before .before .before .before .before .before .before .before .before in
+    let p = k .before .before .before .before .before .before .before .before .before .before in
+    let m = p .before .before .before .before in
+    let f = m .before .before .before in
+    let s = f .before .before .before .before .before .before .before .before .before .before .before .before in
+    let a = s .args in
     let w = s .pre .0 in
-    entered-more (grading (s .args .logic) (termsOf (s .args .terms .now))) (terms-ordered (s .args .terms .now) (w .terms-right)) (s .args .rules .now)
-    (subst (RulesRight (s .args .rules .now)) (sym (length-terms (s .args .terms .now))) (w .rules-right))
-    (s .args .slots .now) (s .args .own .now) (s .args .child .now) (s .args .marks .now) (w .slots-are) (w .few-slots) (s .args .c) (s .args .left) (s .pre .1 .1)
-    _ _ _ _ (row-front (grading (s .args .logic) (termsOf (s .args .terms .now))) (s .args .c) _ _
-    (c .before .before .before .before .before .before .before .before .before .before .before .fill-row .ensures)) (c .before .before .before .before .copy-row .ensures) (s .pre .1 .0 .0)
-    (mark-by-rules .ensures .0) (mark-by-rules .ensures .1)
+    let terms = termsOf (a .terms .now) in
+    let G = grading (a .logic) terms in
+    let ordered = terms-ordered (a .terms .now) (w .terms-right) in
+    let row = f .fill-row .last .1 .1 .1 .0 in
+    let grades = row-front G (a .c) row _ (f .fill-row .ensures) in
+    let shown = slot-row-same (a .slots .now) _ (length terms) (gradeIn G (a .c)) _ (slots-below terms ordered (a .slots .now) (w .slots-are)) grades
+    (p .put-slot-row .ensures) in
+    let e = k .classify .ensures in
+    let one = m .mark-by-rules .ensures in (
+      entered-more G (a .rules .now) (subst (RulesRight (a .rules .now)) (sym (length-terms (a .terms .now))) (w .rules-right)) (a .slots .now)
+          (a .own .now) (a .child .now) (a .source .now) (a .target .now) (a .marks .now) (w .few-slots) (a .c) (a .t) _ (s .pre .1 .1 .0) _ _ _ _ row _ _
+          grades (m .mark-by-rules .result) (s .pre .1 .0 .3) (one .0) (one .1) (e .1 .1 .1)
+          (part-own (a .slots .now) (gradeIn G (a .c)) _ shown) (part-child (a .slots .now) (gradeIn G (a .c)) _ shown) (e .0) (e .1 .0),
+      e .1 .1 .0,
+    )
 
 pub enter-spec : {M : Type 1} → statement M
 enter-spec =
@@ -77,12 +128,20 @@ enter-spec =
     fill-row-requires
     slice-aggregate-mark-by-rules
     mark-by-rules-requires
-    slice-aggregate-copy-row
-    copy-row-requires
     slice-write-marks
-    cast-result
-    add-result
+    cast-now
+    add-now
+    slice-aggregate-put-slot-row
+    slice-aggregate-put-slot-row-2
+    put-slot-row-requires
+    base-requires
+    slice-aggregate-classify
+    classify-requires
     same-length
     same-length-2
     same-length-3
+    same-length-4
+    same-length-5
+    same-length-6
+    same-length-7
     returns)

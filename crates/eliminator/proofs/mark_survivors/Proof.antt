@@ -1,7 +1,7 @@
 -- `eliminator::mark_survivors` meets its contract. The tables are fresh; nothing else is asked of them here, as they are long.
 -- Assumes nothing.
 use borrow.Author.Needs.{needs}
-use Rattle.chain.proofs.Lists.{zeros-long, zeros-at}
+use Rattle.chain.proofs.Lists.{zeros-long}
 use Rattle.eliminator.proofs.mark_survivors.Statement.{statement}
 use Rattle.eliminator.proofs.mark_survivors.Tie as tie
 
@@ -14,8 +14,13 @@ slice-aggregate-mark-on-tables-2 c = search needs
 slice-aggregate-mark-on-tables-3 : tie.Need-slice-aggregate-mark-on-tables-3
 slice-aggregate-mark-on-tables-3 c = search needs
 
+slice-aggregate-mark-on-tables-4 : tie.Need-slice-aggregate-mark-on-tables-4
+slice-aggregate-mark-on-tables-4 c = search needs
+
 mark-on-tables-requires : tie.Need-mark-on-tables-requires
-mark-on-tables-requires c κs = (c .before .before .before .before .before .before .before .before .pre, ((zeros-long 262144, zeros-long 262144, zeros-long 262144), λ i _. zeros-at 262144 i))
+mark-on-tables-requires c κs =
+    let s = c .before .before .before .before .before .before .before .before .before in
+    (s .pre, (zeros-long 262144, zeros-long 262144, zeros-long 16384, zeros-long 16384))
 
 same-length : tie.Need-same-length
 same-length c = search needs
@@ -30,6 +35,7 @@ mark-survivors-spec =
     slice-aggregate-mark-on-tables
     slice-aggregate-mark-on-tables-2
     slice-aggregate-mark-on-tables-3
+    slice-aggregate-mark-on-tables-4
     mark-on-tables-requires
     same-length
     returns)

@@ -1,92 +1,75 @@
--- `sweeps::settle` meets its contract. Each sweep but the last leaves fewer marks; the first one is done before the loop.
+-- `sweeps::settle` meets its contract. The room is fresh; nothing else is asked of it here, as it is long.
 -- Assumes nothing.
-use mathlib.Core.Path.{_∙_, _≡_, refl, sym}
-use native.Mathlib.Omega.{arith}
-use lib.ListN.{length}
-use Rattle.sweeps.proofs.Sweeps.{settled, reduced-sized, ready-sized, state-sized, swept-sized, reduced-none, reduced-then}
-use Rattle.sweeps.specs.Sweeps.{State, Reduced}
+use mathlib.Core.Path.{sym}
+use Prim.Native.Nat.{_*_, _≤_}
+use native.Mathlib.Nat.{le-trans, mul-le-mul-left}
+use lib.ListN.{length, replicate}
+use lib.Seq.{length-take-le}
+use borrow.Author.Needs.{needs}
+use Rattle.chain.proofs.Lists.{zeros-long, zeros-at}
 use Rattle.witnesses.specs.Tables.{tables}
+use Rattle.sweeps.specs.Sweeps.{classes}
+use Rattle.sweeps.proofs.Sweeps.{state-none}
 use Rattle.sweeps.proofs.settle.Statement.{statement}
 use Rattle.sweeps.proofs.settle.Tie as tie
 
-abbrev Inv-loop : tie.InvT-loop
-Inv-loop logic slots own child marks₀ memory₀ left rest₀ marks memory rest =
-    (length marks ≡ length marks₀) × (length memory ≡ length memory₀) × State (tables logic (length marks₀) slots own child) marks memory rest
-    × Reduced (tables logic (length marks₀) slots own child) marks₀ marks
+slice-aggregate-settle-in : tie.Need-slice-aggregate-settle-in
+slice-aggregate-settle-in c = search needs
 
-abbrev μ-loop : tie.MeasureT-loop
-μ-loop logic slots own child marks₀ memory₀ left rest₀ marks memory rest = rest
+array-borrow-prefix-alive : tie.Need-array-borrow-prefix-alive
+array-borrow-prefix-alive c = search needs
 
-sweep-requires : tie.Need-sweep-requires Inv-loop μ-loop
-sweep-requires c κs = c .before .before .before .before .before .before .before .pre
+slice-aggregate-settle-in-2 : tie.Need-slice-aggregate-settle-in-2
+slice-aggregate-settle-in-2 c =
+    let s = c .before .before .before .before .before .before .before .before in
+    sym (length-take-le (s .args .sources) (replicate 16384 0) (le-trans (s .pre .1 .0 .0) (zeros-long 16384)))
 
-loop-holds : tie.Need-loop-holds Inv-loop μ-loop
-loop-holds c =
-    let s = c .before .before .before .before .before .before .before .before .before .before .before .before in
-    let v = c .before .before .before .before .sweep in
-    let e = v .kept .1 .1 .1 .1 .0 in
-    (refl, refl, state-sized (s .args .logic) (length (s .args .marks .now)) _ (s .args .slots .now) (s .args .own .now) (s .args .child .now) (sym e) _ _ _ (v .ensures .0), reduced-none _ _)
+array-borrow-prefix-present : tie.Need-array-borrow-prefix-present
+array-borrow-prefix-present c = search needs
 
-sweep-requires-2 : tie.Need-sweep-requires-2 Inv-loop μ-loop
-sweep-requires-2 c κs =
-    let s = c .before .before .before .before .before .before .before .before .before .before .before .before .before .before .before in
-    let f = c .before .before .before .before .before .before .before .sweep in
-    let e = f .kept .1 .1 .1 .1 .0 in
-    let l = c .before .before .loop in (
-      ready-sized (s .args .logic) (length (s .args .marks .now)) (length (l .marks)) (s .args .slots .now) (s .args .own .now) (s .args .child .now) (sym e ∙ sym (l .inv .0)) (s .pre .0),
+slice-aggregate-settle-in-3 : tie.Need-slice-aggregate-settle-in-3
+slice-aggregate-settle-in-3 c =
+    let s = c .before .before .before .before .before .before .before .before .before in
+    sym (length-take-le (s .args .targets) (replicate 16384 0) (le-trans (s .pre .1 .0 .1) (zeros-long 16384)))
+
+settle-in-requires : tie.Need-settle-in-requires
+settle-in-requires c κs =
+    let s = c .before .before .before .before .before .before .before .before .before .before in
+    let a = s .args in
+    let p = s .pre .1 .0 in
+    let K = classes (tables (a .logic) (a .sources) (a .targets) (a .slots .now) (a .own .now) (a .child .now)) (a .source .now) (a .target .now) in
+    let room : 16 * a .sources ≤ 262144 = mul-le-mul-left 16 (p .0) in (
+      s .pre .0,
       (
-        omega (arith, l .inv .0, l .inv .1, f .kept, s .pre .1 .0),
-        state-sized (s .args .logic) (length (f .last .1 .1 .1 .1 .0)) (length (l .marks)) (s .args .slots .now) (s .args .own .now)
-            (s .args .child .now) (sym (l .inv .0)) _ _ _ (l .inv .2),
+        (
+          le-trans room (zeros-long 262144),
+          p .0,
+          p .1,
+          length-take-le (a .sources) (replicate 16384 0) (le-trans (p .0) (zeros-long 16384)),
+          length-take-le (a .targets) (replicate 16384 0) (le-trans (p .1) (zeros-long 16384)),
+        ),
+        (
+          s .pre .1 .1 .0,
+          state-none K (length (a .marks .now)) (a .marks .now) (replicate 262144 0) (a .left) (s .pre .0 .few) (s .pre .1 .1 .1) (λ i _. zeros-at 262144 i),
+        ),
       ),
     )
 
-same-length : tie.Need-same-length Inv-loop μ-loop
-same-length c = omega (arith, c .before .before .before .before .before .sweep2 .kept, c .before .before .before .before .before .before .before .before .loop .inv, c .before .before .before .before .before .before .before .before .before .before .before .before .before .sweep .kept)
+same-length : tie.Need-same-length
+same-length c = search needs
 
-same-length-2 : tie.Need-same-length-2 Inv-loop μ-loop
-same-length-2 c = omega (arith, c .before .before .before .before .before .sweep2 .kept, c .before .before .before .before .before .before .before .before .loop .inv, c .before .before .before .before .before .before .before .before .before .before .before .before .before .sweep .kept)
-
-returns : tie.Need-returns Inv-loop μ-loop
-returns c =
-    let s = c .before .before .before .before .before .before .before .before .before .before .before .before .before .before .before .before .before .before .before .before .before in
-    let f = c .before .before .before .before .before .before .before .before .before .before .before .before .before .sweep in
-    let e = f .kept .1 .1 .1 .1 .0 in
-    let l = c .before .before .before .before .before .before .before .before .loop in
-    let v = c .before .before .before .before .before .sweep2 in
-    settled (tables (s .args .logic) (length (s .args .marks .now)) (s .args .slots .now) (s .args .own .now) (s .args .child .now)) (s .args .marks .now) (l .marks) _ _ (l .rest) _ (omega arith)
-    (reduced-then (tables (s .args .logic) (length (s .args .marks .now)) (s .args .slots .now) (s .args .own .now) (s .args .child .now)) (s .args .marks .now) (f .last .1 .1 .1 .1 .0) (l .marks)
-    (f .ensures .1 .reduced) (reduced-sized (s .args .logic) (length (f .last .1 .1 .1 .1 .0)) (length (s .args .marks .now)) (s .args .slots .now) (s .args .own .now) (s .args .child .now) e _ _ (l .inv .3)))
-    (state-sized (s .args .logic) (length (l .marks)) (length (s .args .marks .now)) (s .args .slots .now) (s .args .own .now) (s .args .child .now) (l .inv .0 ∙ e) _ _ _ (v .ensures .0))
-    (swept-sized (s .args .logic) (length (l .marks)) (length (s .args .marks .now)) (s .args .slots .now) (s .args .own .now) (s .args .child .now) (l .inv .0 ∙ e) _ _ _ _ (v .ensures .1))
-
-loop-less : tie.Need-loop-less Inv-loop μ-loop
-loop-less c = omega (arith, c .before .before .before .before .before .sweep2 .ensures .1 .fewer)
-
-loop-again : tie.Need-loop-again Inv-loop μ-loop
-loop-again c =
-    let s = c .before .before .before .before .before .before .before .before .before .before .before .before .before .before .before .before .before .before .before .before .before in
-    let f = c .before .before .before .before .before .before .before .before .before .before .before .before .before .sweep in
-    let e = f .kept .1 .1 .1 .1 .0 in
-    let l = c .before .before .before .before .before .before .before .before .loop in
-    let v = c .before .before .before .before .before .sweep2 in (
-      omega (arith, v .kept, l .inv .0),
-      omega (arith, v .kept, l .inv .1),
-      state-sized (s .args .logic) (length (l .marks)) (length (f .last .1 .1 .1 .1 .0)) (s .args .slots .now) (s .args .own .now) (s .args .child .now) (l .inv .0) _ _ _ (v .ensures .0),
-      reduced-then _ _ (l .marks) _ (l .inv .3) (swept-sized (s .args .logic) (length (l .marks)) (length (f .last .1 .1 .1 .1 .0)) (s .args .slots .now) (s .args .own .now) (s .args .child .now) (l .inv .0) _ _ _ _ (v .ensures .1) .reduced),
-    )
+returns : tie.Need-returns
+returns c = search needs
 
 pub settle-spec : {M : Type 1} → statement M
 settle-spec =
     tie.close
     (tie.spec
-    Inv-loop
-    μ-loop
-    sweep-requires
-    loop-holds
-    sweep-requires-2
+    slice-aggregate-settle-in
+    array-borrow-prefix-alive
+    slice-aggregate-settle-in-2
+    array-borrow-prefix-present
+    slice-aggregate-settle-in-3
+    settle-in-requires
     same-length
-    same-length-2
-    returns
-    loop-less
-    loop-again)
+    returns)

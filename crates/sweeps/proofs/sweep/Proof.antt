@@ -1,86 +1,100 @@
--- `sweeps::sweep` meets its contract. The candidates below `c` are visited.
+-- `sweeps::sweep` meets its contract.
 -- Assumes nothing.
-use mathlib.Core.Path.{_≡_, refl, sym, subst}
-use Prim.Native.Nat.{ℕ, _-_, _≤_}
+use mathlib.Core.Path.{_≡_}
 use native.Mathlib.Omega.{arith}
 use lib.ListN.{length}
 use borrow.Author.Needs.{needs}
 use Rattle.witnesses.specs.Tables.{tables}
-use Rattle.sweeps.specs.Sweeps.{State, Swept}
-use Rattle.sweeps.proofs.Sweeps.{swept-none, swept-more, ready-sized, state-sized, visited-sized}
+use Rattle.sweeps.specs.Sweeps.{classes}
+use Rattle.sweeps.proofs.Sweeps.{ready-sized, remembers-sized, judged-sized, swept, swept-state}
 use Rattle.sweeps.proofs.sweep.Statement.{statement}
 use Rattle.sweeps.proofs.sweep.Tie as tie
 
-abbrev Inv-loop : tie.InvT-loop
-Inv-loop logic slots own child marks₀ memory₀ left count rest₀ c₀ marks memory rest c =
-    (c ≤ length marks₀) × (length marks ≡ length marks₀) × (length memory ≡ length memory₀) × State (tables logic (length marks₀) slots own child) marks memory rest × Swept (tables logic (length marks₀) slots own child) c marks₀ marks left rest
+note-all-requires : tie.Need-note-all-requires
+note-all-requires c κs =
+    let s = c .before .before .before .before .before .before .before .before .before .before .before in
+    let q = s .pre .1 .1 .0 in
+    (q .1 .0, rw (s .pre .1 .0 .4) (q .1 .1))
 
-abbrev μ-loop : tie.MeasureT-loop
-μ-loop logic slots own child marks₀ memory₀ left count rest₀ c₀ marks memory rest c =
-    length marks₀ - c
+note-all-requires-2 : tie.Need-note-all-requires-2
+note-all-requires-2 c κs =
+    let s = c .before .before .before .before .before .before .before .before .before .before .before .before .before .before .before .before in
+    let q = s .pre .1 .1 .0 in
+    (q .0 .0, rw (s .pre .1 .0 .3) (q .0 .1))
 
-loop-holds : tie.Need-loop-holds Inv-loop μ-loop
-loop-holds c =
-    let s = c .before .before .before .before .before in
-    (omega arith, refl, refl, s .pre .1 .1, swept-none (tables (s .args .logic) (length (s .args .marks .now)) (s .args .slots .now) (s .args .own .now) (s .args .child .now)) (s .args .marks .now) (s .args .left))
-
-visit-requires : tie.Need-visit-requires Inv-loop μ-loop
-visit-requires c κs =
-    let s = c .before .before .before .before .before .before .before .before .before in
-    let l = c .before .before .before .loop in
-    let p = s .pre .1 .0 in (
-      ready-sized (s .args .logic) (length (s .args .marks .now)) (length (l .marks)) (s .args .slots .now) (s .args .own .now) (s .args .child .now) (sym (l .inv .1)) (s .pre .0),
+judge-all-requires : tie.Need-judge-all-requires
+judge-all-requires c κs =
+    let s = c .before .before .before .before .before .before .before .before .before .before .before .before .before .before .before .before .before .before .before .before .before .before in
+    let a = s .args in
+    let p = s .pre .1 .0 in
+    let present = c .before .before .before .before .before .before .before .before .before .before .note-all in
+    let alive = c .before .before .before .before .before .note-all2 in
+    let after = present .last .1 .1 .0 in
+    let e : a .targets ≡ length after = omega (arith, p .4, present .kept) in (
+      ready-sized (a .logic) (a .sources) (a .targets) (length after) (a .slots .now) (a .own .now) (a .child .now) e (s .pre .0),
       (
-        omega (arith, l .inv .1, l .inv .2),
-        state-sized (s .args .logic) (length (s .args .marks .now)) (length (l .marks)) (s .args .slots .now) (s .args .own .now) (s .args .child .now)
-            (sym (l .inv .1)) _ _ _ (l .inv .3),
+        (omega (arith, p .2), p .0, p .1, omega (arith, p .3, alive .kept)),
+        remembers-sized (a .logic) (a .sources) (a .targets) (length after) (a .slots .now) (a .own .now) (a .child .now) e after (a .memory .now)
+            (s .pre .1 .1 .1 .remembers after (present .ensures .from)),
       ),
     )
 
-add-c : tie.Need-add-c Inv-loop μ-loop
-add-c c = search needs
+drop-all-requires : tie.Need-drop-all-requires
+drop-all-requires c κs =
+    let s = c .before .before .before .before .before .before .before .before .before .before .before .before .before .before .before .before .before .before .before .before .before .before .before .before .before .before .before .before .before in
+    let p = s .pre .1 .0 in
+    let q = s .pre .1 .1 .0 in
+    let k = c .before .before .before .before .before .before .before .before .before .before .before .before .note-all2 .kept in
+    let m = c .before .before .before .before .before .before .judge-all .kept in
+    (s .pre .1 .1 .1 .counted .number, (q .0 .0, λ i h. omega (arith, q .0 .1 i h, p .3)))
 
-loop-less : tie.Need-loop-less Inv-loop μ-loop
-loop-less c = search needs
-
-loop-again : tie.Need-loop-again Inv-loop μ-loop
-loop-again c =
-    let s = c .before .before .before .before .before .before .before .before .before .before .before .before .before .before in
-    let l = c .before .before .before .before .before .before .before .before .loop in
-    let v = c .before .before .before .before .visit in
-    let t = c .before .before .before .before .before .before .before .loop-test .taken in (
-      omega arith,
-      omega (arith, v .kept, l .inv .1),
-      omega (arith, v .kept, l .inv .2),
-      state-sized (s .args .logic) (length (l .marks)) (length (s .args .marks .now)) (s .args .slots .now) (s .args .own .now) (s .args .child .now) (l .inv .1) _ _ _ (v .ensures .0),
-      swept-more (tables (s .args .logic) (length (s .args .marks .now)) (s .args .slots .now) (s .args .own .now) (s .args .child .now)) (l .c) (s .args .marks .now) (l .marks) _ (s .args .left) (l .rest) _ (l .inv .4)
-          (visited-sized (s .args .logic) (length (l .marks)) (length (s .args .marks .now)) (s .args .slots .now) (s .args .own .now) (s .args .child .now) (l .inv .1) _ _ _ _ _ (v .ensures .1)),
-    )
-
-same-length : tie.Need-same-length Inv-loop μ-loop
+same-length : tie.Need-same-length
 same-length c = search needs
 
-same-length-2 : tie.Need-same-length-2 Inv-loop μ-loop
+same-length-2 : tie.Need-same-length-2
 same-length-2 c = search needs
 
-returns : tie.Need-returns Inv-loop μ-loop
+same-length-3 : tie.Need-same-length-3
+same-length-3 c = search needs
+
+same-length-4 : tie.Need-same-length-4
+same-length-4 c = search needs
+
+returns : tie.Need-returns
 returns c =
-    let s = c .before .before .before .before .before .before .before in
-    let l = c .before .loop in
-    let e : l .c ≡ length (s .args .marks .now) = omega arith in
-    (l .inv .3, subst (λ (b : ℕ). Swept (tables (s .args .logic) (length (s .args .marks .now)) (s .args .slots .now) (s .args .own .now) (s .args .child .now)) b (s .args .marks .now) (l .marks) (s .args .left) (l .rest)) e (l .inv .4))
+    let s = c .before .before .before .before .before .before .before .before .before .before .before .before .before .before .before .before .before .before .before .before .before .before .before .before .before .before .before .before .before .before .before .before in
+    let a = s .args in
+    let p = s .pre .1 .0 in
+    let q = s .pre .1 .1 .0 in
+    let K = classes (tables (a .logic) (a .sources) (a .targets) (a .slots .now) (a .own .now) (a .child .now)) (a .source .now) (a .target .now) in
+    let P = c .before .before .before .before .before .before .before .before .before .before .before .before .before .before .before .before .before .before .before .before .note-all in
+    let A = c .before .before .before .before .before .before .before .before .before .before .before .before .before .before .before .note-all2 in
+    let J = c .before .before .before .before .before .before .before .before .before .judge-all in
+    let D = c .before .before .drop-all in
+    let present = P .last .1 .1 .0 in
+    let alive = A .last .1 .1 .0 in
+    let memory = J .last .1 .1 .1 .1 .1 .0 in
+    let kept = J .last .1 .1 .1 .1 .1 .1 .0 in
+    let e : length present ≡ a .targets = omega (arith, p .4, P .kept) in
+    let judged = judged-sized (a .logic) (a .sources) (length present) (a .targets) (a .slots .now) (a .own .now) (a .child .now) e present 0 (a .sources) alive kept
+    (J .ensures .1) in (
+      swept-state K (a .marks .now) present alive kept (D .last .1 .1 .0) (a .sources) (a .left) (D .result) (q .0 .1) (P .ensures) (A .ensures) judged
+          (D .ensures .1) (a .memory .now) memory (s .pre .1 .1 .1)
+          (remembers-sized (a .logic) (a .sources) (length present) (a .targets) (a .slots .now) (a .own .now) (a .child .now) e present memory (J .ensures .0))
+          (D .ensures .0),
+      swept K (a .marks .now) present alive kept (D .last .1 .1 .0) (a .sources) (a .left) (D .result) (q .0 .1) (P .ensures) (A .ensures) judged (D .ensures .1),
+    )
 
 pub sweep-spec : {M : Type 1} → statement M
 sweep-spec =
     tie.close
     (tie.spec
-    Inv-loop
-    μ-loop
-    loop-holds
-    visit-requires
-    add-c
-    loop-less
-    loop-again
+    note-all-requires
+    note-all-requires-2
+    judge-all-requires
+    drop-all-requires
     same-length
     same-length-2
+    same-length-3
+    same-length-4
     returns)

@@ -33,7 +33,7 @@ still-marked-requires c κs =
     let s = c .before .before .before .before .before .before in
     let a = s .args in
     let p = s .pre .1 .0 in
-    remembered-le (tables (a .logic) (length (a .marks .now)) (a .slots .now) (a .own .now) (a .child .now))
+    remembered-le (tables (a .logic) (a .sources) (length (a .marks .now)) (a .slots .now) (a .own .now) (a .child .now))
     (a .marks .now) (a .memory .now) (s .pre .1 .1) (a .c) (a .q) (p .1) (p .2)
 
 returns : tie.Need-returns
@@ -41,7 +41,7 @@ returns c =
     let s = c .before .before .before .before .before .before .before .before in
     let a = s .args in
     let p = s .pre .1 .0 in
-    let b = still-backed (tables (a .logic) (length (a .marks .now)) (a .slots .now) (a .own .now) (a .child .now))
+    let b = still-backed (tables (a .logic) (a .sources) (length (a .marks .now)) (a .slots .now) (a .own .now) (a .child .now))
     (a .marks .now) (a .memory .now) (s .pre .1 .1) (a .c) (a .q) (p .1) (p .2) (c .before .still-marked .ensures .0 (c .if1 .taken)) in
     (tells-yes b, s .pre .1 .1)
 
@@ -53,7 +53,7 @@ returns-2 c =
     let s = c .before .before .before .before .before .before .before .before .before .before in
     let a = s .args in
     let p = s .pre .1 .0 in
-    let n = none-backed (tables (a .logic) (length (a .marks .now)) (a .slots .now) (a .own .now) (a .child .now))
+    let n = none-backed (tables (a .logic) (a .sources) (length (a .marks .now)) (a .slots .now) (a .own .now) (a .child .now))
     (a .marks .now) (a .memory .now) (s .pre .1 .1) (a .c) (a .q) (p .1) (p .2)
     (c .before .before .before .still-marked .ensures .1 (c .before .before .if1 .left)) _ (c .before .next-witness .ensures) refl (omega arith) in
     (tells-no n, s .pre .1 .1)
@@ -78,7 +78,7 @@ returns-3 c =
     let s = c .before .before .before .before .before .before .before .before .before .before in
     let a = s .args in
     let p = s .pre .1 .0 in
-    let T = tables (a .logic) (length (a .marks .now)) (a .slots .now) (a .own .now) (a .child .now) in
+    let T = tables (a .logic) (a .sources) (length (a .marks .now)) (a .slots .now) (a .own .now) (a .child .now) in
     let g = c .before .before .before .still-marked .ensures .1 (c .before .before .if1 .left) in
     let f = c .before .next-witness .ensures in (
       tells-yes (found-backed T (a .marks .now) (a .memory .now) (s .pre .1 .1) (a .c) (a .q) (p .1) (p .2) g _ f (omega arith)),

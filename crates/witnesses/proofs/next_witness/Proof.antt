@@ -50,7 +50,7 @@ returns : tie.Need-returns
 returns c =
     let s = c .before .before .before .before .before .before .before .before .before .before .before .before .before .before .before in
     let a = s .args in
-    next-witness (tables (a .logic) (length (a .marks .now)) (a .slots .now) (a .own .now) (a .child .now)) (s .pre .0) (a .c) (a .q) (s .pre .1 .2) _ _ _
+    next-witness (tables (a .logic) (a .sources) (length (a .marks .now)) (a .slots .now) (a .own .now) (a .child .now)) (s .pre .0) (a .c) (a .q) (s .pre .1 .2) _ _ _
     (c .before .before .before .before .before .before .before .make-boxes .ensures) (a .marks .now) refl (a .start) _ (c .next-hit .ensures)
 
 pub next-witness-spec : {M : Type 1} → statement M

@@ -14,12 +14,12 @@ use Rattle.witnesses.proofs.supported.Statement.{statement}
 use Rattle.witnesses.proofs.supported.Tie as tie
 
 abbrev Inv-loop : tie.InvT-loop
-Inv-loop logic slots own child marks memory₀ c count q₀ memory q =
-    (q ≤ slotCount slots) × (length memory ≡ length memory₀) × Remembers (tables logic (length marks) slots own child) marks memory
-    × ((p : ℕ) → p < q → Backed (tables logic (length marks) slots own child) marks c p)
+Inv-loop logic slots own child marks memory₀ sources c count q₀ memory q =
+    (q ≤ slotCount slots) × (length memory ≡ length memory₀) × Remembers (tables logic sources (length marks) slots own child) marks memory
+    × ((p : ℕ) → p < q → Backed (tables logic sources (length marks) slots own child) marks c p)
 
 abbrev μ-loop : tie.MeasureT-loop
-μ-loop logic slots own child marks memory₀ c count q₀ memory q =
+μ-loop logic slots own child marks memory₀ sources c count q₀ memory q =
     slotCount slots - q
 
 loop-holds : tie.Need-loop-holds Inv-loop μ-loop
@@ -30,7 +30,7 @@ backed-requires c κs =
     let s = c .before .before .before .before .before .before .before .before in
     let l = c .before .before .loop in
     let p = s .pre .1 .0 in
-    (s .pre .0, ((p .0, p .1, omega arith, omega (arith, l .inv .1)), l .inv .2))
+    (s .pre .0, ((p .0, p .1, omega arith, omega (arith, l .inv .1), p .3), l .inv .2))
 
 same-length : tie.Need-same-length Inv-loop μ-loop
 same-length c = search needs
