@@ -19,9 +19,9 @@ use Rattle.network.specs.Network.{between}
 use Rattle.domains.specs.Tables.{Allowed}
 use Rattle.domains.specs.Gaps.{SameAllowed}
 use Rattle.domains.specs.Consistent.{FitsBy, Consistent, Graded}
-use Rattle.arcs.specs.Boxes.{BoxOf, Narrowed}
+use Rattle.boxes.specs.Boxes.{BoxOf, Narrowed}
 use Rattle.arcs.specs.Arcs.{Holder, Sought, Tried, left, Went, RevisedBy, SupportedBy, Pruned, Revised}
-use Rattle.arcs.proofs.Boxes.{box-of}
+use Rattle.boxes.proofs.Boxes.{box-of}
 
 -- ---- support
 

@@ -1,2 +1,2 @@
-pub mod Boxes
+pub mod Bounds
 pub mod Arcs

@@ -13,7 +13,7 @@ use Rattle.elimination.specs.Marks.{marked?}
 use Rattle.network.specs.Network.{between}
 use Rattle.domains.specs.Tables.{Allowed}
 use Rattle.domains.specs.Consistent.{FitsBy, Fits, Consistent}
-use Rattle.arcs.specs.Boxes.{Inside}
+use Rattle.boxes.specs.Boxes.{Inside}
 
 -- ---- support
 

@@ -4,11 +4,14 @@ ghost use Prim.Native.Nat.{ℕ, _+_, _*_, _<_, _≤_};
 ghost use lib.ListN.{length};
 ghost use Rattle.chain.specs.Decisions.{Tells};
 ghost use Rattle.network.specs.Rows.{rowAt};
-ghost use Rattle.network.specs.Constraints.{constraintCount, Met, AllMet, Right, AllRight, OnChain};
+ghost use Rattle.network.specs.Constraints.{constraintCount, Met, AllMet, Right, AllRight};
 ghost use Rattle.domains.specs.Gaps.{GapsFrom, Gaps};
 ghost use Rattle.domains.specs.Consistent.{FitsBy, Problem, Graded};
-ghost use Rattle.arcs.specs.Boxes.{Inside, Within, boundCount, boundAt, Asks, Narrowed};
+ghost use Rattle.boxes.specs.Boxes.{OnChain, boundCount, boundAt, Asks, Narrowed};
 ghost use Rattle.arcs.specs.Arcs.{Sought, Tried, SupportedBy, SupportedTo, ArcConsistent, Pruned, Revised, RevisedBy};
+use boxes::Bound;
+use boxes::inside;
+use boxes::put_bound;
 use domains::leap;
 use domains::note_gaps;
 use gradings::Logic;
@@ -19,13 +22,6 @@ use network::between;
 use network::constraint_at;
 use network::row_at;
 use sections::wide;
-
-// The grades that a row may have in a column: from `low` to `high`.
-pub struct Bound {
-    pub column: u8,
-    pub low: u8,
-    pub high: u8,
-}
 
 // ---- the box in which the rows lie that are compatible with a row
 
@@ -70,23 +66,6 @@ fn bound_source(logic: Logic, k: Constraint, columns: usize, target: &[u8]) -> B
         low: 0,
         high: taken,
     }
-}
-
-// Adds a bound as number `m`, if it leaves anything of the chain out. The number of bounds.
-fn put_bound(logic: Logic, columns: usize, b: Bound, bounds: &mut [u8], m: usize) -> usize
-    requires { ⌜ (b .column < columns) × (3 * m + 3 ≤ length (now bounds)) ⌝ }
-    ensures { λ r. ⌜ Narrowed logic columns (Within b) (now (bounds .entry)) m (now (bounds .exit)) r ⌝ }
-    ensures { λ r. ⌜ r ≤ m + 1 ⌝ }
-{
-    if b.low == 0 {
-        if logic.steps <= b.high {
-            return m;
-        }
-    }
-    bounds[3 * m] = b.column;
-    bounds[3 * m + 1] = b.low;
-    bounds[3 * m + 2] = b.high;
-    m + 1
 }
 
 // Adds what all constraints of a list ask of the target's row.
@@ -155,26 +134,6 @@ fn make_box(
 {
     let m = bound_targets(logic, forth, columns, row, bounds, 0);
     bound_sources(logic, back, columns, row, bounds, m)
-}
-
-// Does the row lie in the box? The first bound that it passes decides.
-fn inside(bounds: &[u8], row: &[u8]) -> bool
-    requires { ⌜ ((x : ℕ) → x < boundCount (now bounds) → boundAt (now bounds) x .column < length (now row)) ⌝ }
-    ensures { λ r. ⌜ Tells r (Inside (now (bounds .entry)) (now (row .entry))) ⌝ }
-{
-    let count = bounds.len() / 3;
-    let mut x = 0;
-    while x < count {
-        let grade = row[wide(bounds[3 * x])];
-        if grade < bounds[3 * x + 1] {
-            return false;
-        }
-        if bounds[3 * x + 2] < grade {
-            return false;
-        }
-        x += 1;
-    }
-    true
 }
 
 // ---- support

@@ -7,7 +7,8 @@ use Prim.Native.Nat.{ℕ, _≤_, _<_}
 use lib.ListN.{length}
 use Rattle.gradings.specs.declared.Logic.{Logic}
 use Rattle.network.specs.Rows.{rowAt}
-use Rattle.network.specs.Constraints.{AllMet, OnChain}
+use Rattle.boxes.specs.Boxes.{OnChain}
+use Rattle.network.specs.Constraints.{AllMet}
 use Rattle.network.specs.Network.{between, Wired}
 use Rattle.domains.specs.Tables.{Allowed}
 

@@ -35,7 +35,3 @@ pub record Right (l : Logic) (m : ℕ) (k : Constraint) : Type 0 where
 
 abbrev pub AllRight : Logic → (m : ℕ) (s : List ℕ) → Type 0
 AllRight l m s = (y : ℕ) → y < constraintCount s → Right l m (constraintAt s y)
-
--- a row whose first m grades are on the chain
-abbrev pub OnChain : Logic → (m : ℕ) (v : List ℕ) → Type 0
-OnChain l m v = (t : ℕ) → t < m → entry v t ≤ l .steps

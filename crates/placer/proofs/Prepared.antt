@@ -27,7 +27,8 @@ use Rattle.slots.specs.Rows.{SlotRow}
 use Rattle.slots.proofs.Slots.{slot-role}
 use Rattle.placement.specs.Outcome.{HoldsMembership, HoldsLink}
 use Rattle.network.specs.Rows.{rowAt}
-use Rattle.network.specs.Constraints.{AllMet, OnChain}
+use Rattle.boxes.specs.Boxes.{OnChain}
+use Rattle.network.specs.Constraints.{AllMet}
 use Rattle.network.specs.Network.{between, ClaimsMet, NetworkOf}
 use Rattle.network.proofs.Network.{slot-row-on-chain, network-right, network-met}
 use Rattle.domains.specs.Consistent.{Problem}

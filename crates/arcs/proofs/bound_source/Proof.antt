@@ -2,7 +2,7 @@
 -- Assumes nothing.
 use native.Mathlib.Omega.{arith}
 use borrow.Author.Needs.{needs}
-use Rattle.arcs.proofs.Boxes.{source-some, source-all}
+use Rattle.arcs.proofs.Bounds.{source-some, source-all}
 use Rattle.arcs.proofs.bound_source.Statement.{statement}
 use Rattle.arcs.proofs.bound_source.Tie as tie
 

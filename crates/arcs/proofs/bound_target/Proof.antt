@@ -2,7 +2,7 @@
 -- Assumes nothing.
 use native.Mathlib.Omega.{arith}
 use borrow.Author.Needs.{needs}
-use Rattle.arcs.proofs.Boxes.{target-some, target-all}
+use Rattle.arcs.proofs.Bounds.{target-some, target-all}
 use Rattle.arcs.proofs.bound_target.Statement.{statement}
 use Rattle.arcs.proofs.bound_target.Tie as tie
 

@@ -6,9 +6,9 @@ use native.Mathlib.Omega.{arith}
 use lib.ListN.{length}
 use borrow.Author.Needs.{needs}
 use Rattle.network.specs.Constraints.{Right, constraintCount, constraintAt, Met}
-use Rattle.arcs.specs.Boxes.{Asks, Narrowed}
+use Rattle.boxes.specs.Boxes.{Asks, Narrowed}
 use Rattle.network.specs.declared.Constraint.{Constraint}
-use Rattle.arcs.proofs.Boxes.{narrowed-none, narrowed-more}
+use Rattle.boxes.proofs.Boxes.{narrowed-none, narrowed-more}
 use Rattle.arcs.proofs.bound_targets.Statement.{statement}
 use Rattle.arcs.proofs.bound_targets.Tie as tie
 

@@ -2,7 +2,7 @@
 -- Assumes nothing.
 use mathlib.Core.Path.{_∙_}
 use native.Mathlib.Omega.{arith}
-use Rattle.arcs.proofs.Boxes.{narrowed-then}
+use Rattle.boxes.proofs.Boxes.{narrowed-then}
 use Rattle.arcs.proofs.make_box.Statement.{statement}
 use Rattle.arcs.proofs.make_box.Tie as tie
 

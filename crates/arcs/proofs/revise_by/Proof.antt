@@ -7,7 +7,7 @@ use lib.ListN.{length}
 use borrow.Author.Tests.{not-true, not-false}
 use Rattle.arcs.specs.Arcs.{SupportedBy}
 use Rattle.domains.proofs.Gaps.{gaps-noted}
-use Rattle.arcs.proofs.Boxes.{constraints-few}
+use Rattle.arcs.proofs.Bounds.{constraints-few}
 use Rattle.arcs.proofs.Arcs.{revised-not, revised-noted, revised-none}
 use Rattle.arcs.proofs.revise_by.Statement.{statement}
 use Rattle.arcs.proofs.revise_by.Tie as tie

@@ -9,7 +9,7 @@ use native.Mathlib.Omega.{arith}
 use borrow.Author.Count.{below-more}
 use borrow.Author.Needs.{needs}
 use Rattle.network.proofs.Rows.{length-rowAt}
-use Rattle.arcs.specs.Boxes.{Inside}
+use Rattle.boxes.specs.Boxes.{Inside}
 use Rattle.arcs.specs.Arcs.{Hit}
 use Rattle.arcs.proofs.seek.Statement.{statement}
 use Rattle.arcs.proofs.seek.Tie as tie

@@ -5,7 +5,7 @@ use native.Mathlib.Omega.{arith}
 use borrow.Author.Needs.{needs}
 use Rattle.network.proofs.Rows.{length-rowAt}
 use Rattle.arcs.proofs.Arcs.{tried-of}
-use Rattle.arcs.proofs.Boxes.{box-long, box-of}
+use Rattle.boxes.proofs.Boxes.{box-long, box-of}
 use Rattle.arcs.proofs.support.Statement.{statement}
 use Rattle.arcs.proofs.support.Tie as tie
 

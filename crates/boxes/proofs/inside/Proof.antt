@@ -1,4 +1,4 @@
--- `arcs::inside` meets its contract. The row lies within the bounds below `x`.
+-- `boxes::inside` meets its contract. The row lies within the bounds below `x`.
 -- Assumes nothing.
 use mathlib.Core.Path.{ap}
 use Prim.Native.Nat.{ℕ, _≤_, _<_, _-_}
@@ -7,9 +7,9 @@ use lib.ListN.{getD}
 use borrow.Author.Count.{below-more}
 use borrow.Author.Needs.{needs}
 use Rattle.chain.proofs.Decisions.{tells-yes, tells-no}
-use Rattle.arcs.specs.Boxes.{boundCount, boundAt, Within}
-use Rattle.arcs.proofs.inside.Statement.{statement}
-use Rattle.arcs.proofs.inside.Tie as tie
+use Rattle.boxes.specs.Boxes.{boundCount, boundAt, Within}
+use Rattle.boxes.proofs.inside.Statement.{statement}
+use Rattle.boxes.proofs.inside.Tie as tie
 
 abbrev Inv-loop : tie.InvT-loop
 Inv-loop bounds row count x₀ x = (x ≤ boundCount bounds) × ((z : ℕ) → z < x → Within (boundAt bounds z) row)

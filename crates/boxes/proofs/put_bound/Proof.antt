@@ -1,12 +1,12 @@
--- `arcs::put_bound` meets its contract.
+-- `boxes::put_bound` meets its contract.
 -- Assumes nothing.
 use Prim.Native.Nat.{_+_, _*_}
 use native.Mathlib.Omega.{arith}
 use lib.ListN.{set, length-set}
 use borrow.Author.Needs.{needs}
-use Rattle.arcs.proofs.Boxes.{narrowed-all, narrowed-one, put-length}
-use Rattle.arcs.proofs.put_bound.Statement.{statement}
-use Rattle.arcs.proofs.put_bound.Tie as tie
+use Rattle.boxes.proofs.Boxes.{narrowed-all, narrowed-one, put-length}
+use Rattle.boxes.proofs.put_bound.Statement.{statement}
+use Rattle.boxes.proofs.put_bound.Tie as tie
 
 returns : tie.Need-returns
 returns c =

@@ -1,4 +1,4 @@
--- Boxes: what constraints ask of the row of one individual where the row of the other is known, as bounds on the grades in its columns.
+-- Boxes: bounds on the grades in the columns of a row, and what it means that a box asks of a row just what a predicate says.
 -- Assumes nothing.
 use mathlib.Core.Path.{_≡_}
 use mathlib.Core.Logic.{_↔_}
@@ -6,8 +6,11 @@ use mathlib.Core.List.{List}
 use Prim.Native.Nat.{ℕ, _+_, _*_, _/_, _≤_, _<_}
 use lib.ListN.{length, getD}
 use Rattle.gradings.specs.declared.Logic.{Logic}
-use Rattle.network.specs.Constraints.{OnChain}
-use Rattle.arcs.specs.declared.Bound.{Bound}
+use Rattle.boxes.specs.declared.Bound.{Bound}
+
+-- a row whose first m grades are on the chain
+abbrev pub OnChain : Logic → (m : ℕ) (v : List ℕ) → Type 0
+OnChain l m v = (t : ℕ) → t < m → getD v t 0 ≤ l .steps
 
 -- the row v lies within a bound
 abbrev pub Within : Bound → (v : List ℕ) → Type 0
