@@ -1,17 +1,17 @@
 -- Laws of boxes: one bound, how lists of bounds grow, and the part in use as a box.
 -- Assumes nothing.
-use mathlib.Core.Path.{_≡_, refl, sym, subst, _∙_}
+use mathlib.Core.Path.{_≡_, refl, sym, ap, subst, _∙_}
 use mathlib.Core.Logic.{_↔_, dite}
 use mathlib.Core.List.{List}
-use Prim.Native.Nat.{ℕ, _+_, _*_, _≤_, _<_}
+use Prim.Native.Nat.{ℕ, _+_, _-_, _*_, _≤_, _<_}
 use native.Mathlib.Decide.{decLt}
 use native.Mathlib.Omega.{arith}
-use lib.ListN.{length, getD, take, set, length-set}
-use lib.Seq.{getD-take, getD-set-same, getD-set-other, length-take-le}
+use lib.ListN.{length, getD, take, drop, set, length-set, length-drop}
+use lib.Seq.{getD-take, getD-drop, getD-set-same, getD-set-other, length-take-le}
 use borrow.Author.Count.{below-more}
 use Rattle.gradings.specs.declared.Logic.{Logic}
 use Rattle.boxes.specs.declared.Bound.{Bound}
-use Rattle.boxes.specs.Boxes.{OnChain, Within, boundAt, Asks, BoxOf, Narrowed}
+use Rattle.boxes.specs.Boxes.{OnChain, Within, boundCount, boundAt, part, Asks, BoxOf, Narrowed}
 
 -- ---- one bound
 
@@ -85,6 +85,39 @@ module _ (lg : Logic) (m : ℕ) where
       ))
       (narrowed-then (λ v. (z : ℕ) → z < y → R z v) (Within q) a k b r c t w u)
 
+  -- the same from y on, below n
+  pub narrowed-down : (R : ℕ → List ℕ → Type 0) (y n : ℕ) (q : Bound) (a : List ℕ) (k : ℕ) (b : List ℕ) (r : ℕ) (c : List ℕ) (t : ℕ) → y < n → Asks lg m (R y) q
+      → Narrowed lg m (λ v. (z : ℕ) → y + 1 ≤ z → z < n → R z v) a k b r → Narrowed lg m (Within q) b r c t
+      → Narrowed lg m (λ v. (z : ℕ) → y ≤ z → z < n → R z v) a k c t
+  narrowed-down R y n q a k b r c t h asks w u =
+      narrowed-map (λ v. ((z : ℕ) → y + 1 ≤ z → z < n → R z v) × Within q v) (λ v. (z : ℕ) → y ≤ z → z < n → R z v) a k c t
+      (λ v on. (
+        λ p z l g. dite (decLt y z) (λ i. p .0 z (omega arith) g)
+            (λ i. let e : y ≡ z = omega arith in subst (λ (x : ℕ). R x v) e (asks .exact v on .0 (p .1))),
+        λ p. (λ z l g. p z (omega arith) g, asks .exact v on .1 (p y (omega arith) h)),
+      ))
+      (narrowed-then (λ v. (z : ℕ) → y + 1 ≤ z → z < n → R z v) (Within q) a k b r c t w u)
+
+  -- bounds that stay where they are, while others are added behind them
+  pub narrowed-kept : (P : List ℕ → Type 0) (old new : List ℕ) (k r : ℕ) → ((z : ℕ) → z < 3 * r → getD new z 0 ≡ getD old z 0) → Narrowed lg m P old k old r
+      → Narrowed lg m P new k new r
+  narrowed-kept P old new k r same w = record {
+    more = w .more;
+    kept = λ z l. refl;
+    columns = λ x l h. subst (λ (q : Bound). q .column < m) (sym (at x h)) (w .columns x l h);
+    exact = λ v on. (
+      λ h. w .exact v on .0 (λ x l g. subst (λ (q : Bound). Within q v) (at x g) (h x l g)),
+      λ p x l g. subst (λ (q : Bound). Within q v) (sym (at x g)) (w .exact v on .1 p x l g),
+    );
+  }
+    where
+      at : (x : ℕ) → x < r → boundAt new x ≡ boundAt old x
+      at x h = same-bound old new r same x h
+
+  -- what was added, by itself
+  pub narrowed-last : (P : List ℕ → Type 0) (old : List ℕ) (k : ℕ) (new : List ℕ) (r : ℕ) → Narrowed lg m P old k new r → Narrowed lg m P new k new r
+  narrowed-last P old k new r w = record { more = w .more; kept = λ z l. refl; columns = w .columns; exact = w .exact }
+
 -- one bound
 abbrev pub putBound : (s : List ℕ) (k : ℕ) → Bound → List ℕ
 putBound s k b = set (set (set s (3 * k) (b .column)) (3 * k + 1) (b .low)) (3 * k + 2) (b .high)
@@ -136,18 +169,44 @@ narrowed-all lg m s k b in-b low high = narrowed-none lg m (Within b) s k (λ v 
 
 -- ---- the part in use is a box
 
+-- the bounds from number k up to number r
+module _ (s : List ℕ) (k r : ℕ) (h : k ≤ r) (long : 3 * r ≤ length s) where
+  part-count : boundCount (part s k r) ≡ r - k
+  part-count = omega (arith, length-take-le (3 * r - 3 * k) (drop (3 * k) s) (omega (arith, length-drop (3 * k) s)))
+
+  part-at : (x : ℕ) → x < r - k → boundAt (part s k r) x ≡ boundAt s (k + x)
+  part-at x l =
+      let b0 : getD (part s k r) (3 * x) 0 ≡ getD s (3 * (k + x)) 0 = byte (3 * x) (3 * (k + x)) (omega arith) (omega arith) in
+      let b1 : getD (part s k r) (3 * x + 1) 0 ≡ getD s (3 * (k + x) + 1) 0 = byte (3 * x + 1) (3 * (k + x) + 1) (omega arith) (omega arith) in
+      let b2 : getD (part s k r) (3 * x + 2) 0 ≡ getD s (3 * (k + x) + 2) 0 = byte (3 * x + 2) (3 * (k + x) + 2) (omega arith) (omega arith) in
+      cc
+    where
+      byte : (z y : ℕ) → z < 3 * r - 3 * k → 3 * k + z ≡ y → getD (part s k r) z 0 ≡ getD s y 0
+      byte z y g e = getD-take (3 * r - 3 * k) (drop (3 * k) s) z 0 g ∙ getD-drop (3 * k) s z 0 ∙ ap (λ (i : ℕ). getD s i 0) e
+
+module _ (lg : Logic) (m : ℕ) (P : List ℕ → Type 0) (old : List ℕ) (k : ℕ) (new : List ℕ) (r : ℕ) (w : Narrowed lg m P old k new r) (long : 3 * r ≤ length new) where
+  pub box-part : BoxOf lg m P (part new k r)
+  box-part = record {
+    columns = λ x l. let h = inside x l in subst (λ (q : Bound). q .column < m) (sym (at x h)) (w .columns (k + x) (omega arith) (omega arith));
+    exact = λ v on. (
+      λ i. w .exact v on .0 (λ x l h. subst (λ (q : Bound). Within q v) (back x l h) (i (x - k) (omega (arith, part-count new k r (w .more) long)))),
+      λ p x l. let h = inside x l in subst (λ (q : Bound). Within q v) (sym (at x h)) (w .exact v on .1 p (k + x) (omega arith) (omega arith)),
+    );
+  }
+    where
+      inside : (x : ℕ) → x < boundCount (part new k r) → x < r - k
+      inside x l = omega (arith, part-count new k r (w .more) long)
+
+      at : (x : ℕ) → x < r - k → boundAt (part new k r) x ≡ boundAt new (k + x)
+      at = part-at new k r (w .more) long
+
+      back : (x : ℕ) → k ≤ x → x < r → boundAt (part new k r) (x - k) ≡ boundAt new x
+      back x l h = let e : k + (x - k) ≡ x = omega arith in at (x - k) (omega arith) ∙ ap (boundAt new) e
+
+-- from the first on
 module _ (lg : Logic) (m : ℕ) (P : List ℕ → Type 0) (old new : List ℕ) (r : ℕ) (w : Narrowed lg m P old 0 new r) (long : 3 * r ≤ length new) where
   pub box-long : length (take (3 * r) new) ≡ 3 * r
   box-long = length-take-le (3 * r) new long
 
-  box-at : (x : ℕ) → x < r → boundAt (take (3 * r) new) x ≡ boundAt new x
-  box-at x l = same-bound new (take (3 * r) new) r (λ z h. getD-take (3 * r) new z 0 h) x l
-
   pub box-of : BoxOf lg m P (take (3 * r) new)
-  box-of = record {
-    columns = λ x l. let h : x < r = omega (arith, box-long) in subst (λ (q : Bound). q .column < m) (sym (box-at x h)) (w .columns x (omega arith) h);
-    exact = λ v on. (
-      λ i. w .exact v on .0 (λ x _ h. subst (λ (q : Bound). Within q v) (box-at x h) (i x (omega (arith, box-long)))),
-      λ p x l. let h : x < r = omega (arith, box-long) in subst (λ (q : Bound). Within q v) (sym (box-at x h)) (w .exact v on .1 p x (omega arith) h),
-    );
-  }
+  box-of = let e : 3 * r - 3 * 0 ≡ 3 * r = omega arith in subst (λ (z : ℕ). BoxOf lg m P (take z new)) e (box-part lg m P old 0 new r w long)

@@ -3,8 +3,8 @@
 use mathlib.Core.Path.{_≡_}
 use mathlib.Core.Logic.{_↔_}
 use mathlib.Core.List.{List}
-use Prim.Native.Nat.{ℕ, _+_, _*_, _/_, _≤_, _<_}
-use lib.ListN.{length, getD}
+use Prim.Native.Nat.{ℕ, _+_, _-_, _*_, _/_, _≤_, _<_}
+use lib.ListN.{length, getD, take, drop}
 use Rattle.gradings.specs.declared.Logic.{Logic}
 use Rattle.boxes.specs.declared.Bound.{Bound}
 
@@ -27,6 +27,10 @@ module _ (s : List ℕ) where
   -- the row lies in the box
   abbrev pub Inside : (v : List ℕ) → Type 0
   Inside v = (x : ℕ) → x < boundCount → Within (boundAt x) v
+
+-- the bounds from number a up to number b
+abbrev pub part : (s : List ℕ) (a b : ℕ) → List ℕ
+part s a b = take (3 * b - 3 * a) (drop (3 * a) s)
 
 -- ---- by a logic, of rows over m columns
 

@@ -1,120 +1,167 @@
 -- Laws of the search for witnesses by the tables.
 -- Assumes nothing.
-use mathlib.Core.Path.{_≡_, sym, ap, subst, _∙_}
+use mathlib.Core.Path.{_≡_, refl, sym, ap, subst, _∙_}
 use mathlib.Core.Logic.{dite, _↔_}
 use mathlib.Core.List.{List, []}
 use Prim.Native.Nat.{ℕ, _+_, _-_, _*_, _≤_, _<_}
 use native.Mathlib.Decide.{ℕ-discrete, decLt}
 use native.Mathlib.Nat.{le-refl, le-trans}
 use native.Mathlib.Omega.{arith}
-use lib.ListN.{length, getD, set}
-use lib.Seq.{getD-set-same, getD-set-other}
+use lib.ListN.{length, getD, drop, set, length-set, length-drop}
+use lib.Seq.{getD-take, getD-drop, getD-set-same, getD-set-other, length-take-le}
 use borrow.Author.Count.{below-more}
-use Rattle.chain.specs.Connectives.{Quantifier, Within, Bounds}
+use Rattle.chain.specs.Connectives.{Within, Bounds}
 use Rattle.chain.proofs.Connectives.{within-trans, through-mono}
 use Rattle.semantics.specs.Links.{Governs}
 use Rattle.sections.proofs.Terms.{by-some, by-all}
 use Rattle.gradings.specs.Gradings.{connectivesOf, grading}
 use Rattle.gradings.specs.declared.Logic.{Logic}
 use Rattle.gradings.proofs.Gradings.{logic-lawful}
+use Rattle.boxes.specs.Boxes.{OnChain, Asks, BoxOf, Narrowed}
+use Rattle.boxes.proofs.Boxes.{asks-to, asks-from, narrowed-kept, narrowed-last, box-part}
 use Rattle.slots.specs.Slots.{slotCount, slotKind, slotRole, slotQuantifier}
 use Rattle.elimination.specs.Marks.{Marked}
 use Rattle.elimination.proofs.Marks.{marked-lt}
 use Rattle.witnesses.specs.Tables.{cell, Tables, Ready}
-use Rattle.witnesses.specs.Search.{WantsAt, Between, BoxTo, BoxFor, Boxes, OthersKept, Witness, Inside, NextHit, NextWitness, Remembered, Remembers, Backed}
+use Rattle.witnesses.specs.Search.{AllowsAt, WantsAt, AllowsRow, BoxFor, Boxes, Witness, rowIn, boxOf, Legible, InBox, NextHit, NextWitness, Remembered, Remembers, Backed}
 
--- ---- the boxes of slot q of candidate c
+-- ---- the boxes of slot q of source c
 
 module _ (lg : Logic) (slots own : List ℕ) (c q : ℕ) where
-  -- the bounds on the child of slot j, by its role and its kind
-  module _ (v j : ℕ) where
-    pub between-other : ¬ Governs (grading lg []) (slotRole slots j) (slotRole slots q) → Between lg slots own c q v j 0 (lg .steps)
-    between-other n y h = (λ p w. absurd (n w), λ p. (omega arith, h))
+  -- what slot j asks of the row of a target, as a bound, by its role and its kind
+  module _ (v j : ℕ) (hj : j < slotCount slots) where
+    abbrev AllowsIn : List ℕ → Type 0
+    AllowsIn row = AllowsAt lg slots own c q v j (getD row j 0)
+
+    pub bound-other : ¬ Governs (grading lg []) (slotRole slots j) (slotRole slots q)
+        → Asks lg (slotCount slots) AllowsIn (record { column = j; low = 0; high = lg .steps })
+    bound-other n = asks-to lg (slotCount slots) j (lg .steps) hj AllowsIn (λ row on. (λ _ w. absurd (n w), λ _. on j hj))
 
     module _ (w : Governs (grading lg []) (slotRole slots j) (slotRole slots q)) (e : ℕ)
         (f : Bounds (lg .steps) (connectivesOf lg) (slotQuantifier slots j) v (cell own c j) e) where
-      abbrev Edge : (a b : ℕ) → Quantifier → Type 0
-      Edge a b k = (y : ℕ) → y ≤ lg .steps → ((a ≤ y) × (y ≤ b)) ↔ Within k y e
+      allowed : (row : List ℕ) → OnChain lg (slotCount slots) row → Within (slotQuantifier slots j) (getD row j 0) e ↔ AllowsIn row
+      allowed row on = let u = f (getD row j 0) (on j hj) in (λ p _. u .0 p, λ p. u .1 (p w))
 
-      between : (a b : ℕ) → Edge a b (slotQuantifier slots j) → Between lg slots own c q v j a b
-      between a b g y h = (λ p _. f y h .0 (g y h .0 p), λ p. g y h .1 (f y h .1 (p w)))
+      pub bound-some : slotKind slots j ≡ 4 → Asks lg (slotCount slots) AllowsIn (record { column = j; low = 0; high = e })
+      bound-some k =
+          asks-to lg (slotCount slots) j e hj AllowsIn
+          (λ row on. by-some (λ z. Within z (getD row j 0) e ↔ AllowsIn row → (getD row j 0 ≤ e) ↔ AllowsIn row) (slotKind slots j) k (λ h. h) (allowed row on))
 
-      pub between-some : slotKind slots j ≡ 4 → Between lg slots own c q v j 0 e
-      between-some k = between 0 e (by-some (Edge 0 e) (slotKind slots j) k (λ y h. (λ p. p .1, λ p. (omega arith, p))))
-
-      pub between-all : 4 ≤ slotKind slots j → slotKind slots j ≤ 5 → ¬ (slotKind slots j ≡ 4) → Between lg slots own c q v j e (lg .steps)
-      between-all l m n = between e (lg .steps) (by-all (Edge e (lg .steps)) (slotKind slots j) l m n (λ y h. (λ p. p .0, λ p. (p, h))))
-
-  -- one slot more of a box, as a loop makes it
-  pub box-more : (low high : List ℕ) (v j a b : ℕ) → 16 * v + j < length low → 16 * v + j < length high → Between lg slots own c q v j a b
-      → BoxTo lg slots own c q low high v j → BoxTo lg slots own c q (set low (16 * v + j) a) (set high (16 * v + j) b) v (j + 1)
-  box-more low high v j a b hl hh new f =
-      below-more (λ i. Between lg slots own c q v i (cell (set low (16 * v + j) a) v i) (cell (set high (16 * v + j) b) v i)) j
-      (λ i h. rw (getD-set-other low (16 * v + j) (16 * v + i) a 0 (omega arith), getD-set-other high (16 * v + j) (16 * v + i) b 0 (omega arith)) (f i h))
-      (rw (getD-set-same low (16 * v + j) a 0 hl, getD-set-same high (16 * v + j) b 0 hh) new)
+      pub bound-all : 4 ≤ slotKind slots j → slotKind slots j ≤ 5 → ¬ (slotKind slots j ≡ 4)
+          → Asks lg (slotCount slots) AllowsIn (record { column = j; low = e; high = lg .steps })
+      bound-all l m n =
+          asks-from lg (slotCount slots) j e hj AllowsIn
+          (λ row on. by-all (λ z. Within z (getD row j 0) e ↔ AllowsIn row → (e ≤ getD row j 0) ↔ AllowsIn row) (slotKind slots j) l m n (λ h. h) (allowed row on))
 
   -- one grade more, which wants level v, in the three ways of the code
-  module _ (wanted low high : List ℕ) (x v : ℕ) (room : x < length wanted) (B : Boxes lg slots own c q wanted low high x) (w : WantsAt lg slots own c q x v) where
-    boxes-more : (low' high' : List ℕ) → Boxes lg slots own c q wanted low' high' x → (v ≤ lg .steps → BoxTo lg slots own c q low' high' v (slotCount slots))
-        → Boxes lg slots own c q (set wanted x v) low' high' (x + 1)
-    boxes-more low' high' f new =
-        below-more (λ y. BoxFor lg slots own c q low' high' y (getD (set wanted x v) y 0)) x
-        (λ y h. rw (getD-set-other wanted x y v 0 (omega arith)) (f y h))
-        (rw (getD-set-same wanted x v 0 room) (record { wants = w; box = new }))
+  module _ (wanted spans bounds : List ℕ) (x v k : ℕ) (room : x < length wanted) (B : Boxes lg slots own c q wanted spans bounds x k)
+      (w : WantsAt lg slots own c q x v) where
+    boxes-more : (spans' bounds' : List ℕ) (r : ℕ) → k ≤ r → ((z : ℕ) → z < 3 * k → getD bounds' z 0 ≡ getD bounds z 0)
+        → ((y : ℕ) → y < 2 * x → getD spans' y 0 ≡ getD spans y 0)
+        → BoxFor lg slots own c q bounds' r x v (getD spans' (2 * x) 0) (getD spans' (2 * x + 1) 0) → Boxes lg slots own c q (set wanted x v) spans' bounds' (x + 1) r
+    boxes-more spans' bounds' r more kept same new =
+        below-more (λ y. BoxFor lg slots own c q bounds' r y (getD (set wanted x v) y 0) (getD spans' (2 * y) 0) (getD spans' (2 * y + 1) 0)) x
+        (λ y h. let u = B y h in
+        rw (getD-set-other wanted x y v 0 (omega arith), same (2 * y) (omega arith), same (2 * y + 1) (omega arith)) (record {
+          wants = u .wants;
+          box = λ l. narrowed-kept lg (slotCount slots) _ bounds bounds' _ _ (λ z g. kept z (omega (arith, u .few l))) (u .box l);
+          few = λ l. omega (arith, u .few l);
+        }))
+        (rw (getD-set-same wanted x v 0 room) new)
 
     -- no level on the chain is enough for it
-    pub boxes-none : lg .steps < v → Boxes lg slots own c q (set wanted x v) low high (x + 1)
-    boxes-none h = boxes-more low high B (λ l. absurd (omega arith))
+    pub boxes-none : lg .steps < v → Boxes lg slots own c q (set wanted x v) spans bounds (x + 1) k
+    boxes-none h =
+        boxes-more spans bounds k (omega arith) (λ z _. refl) (λ y _. refl)
+        (record { wants = w; box = λ l. absurd (omega arith); few = λ l. absurd (omega arith) })
 
-    -- the grade before wants the same
-    pub boxes-shared : 0 < x → getD (set wanted x v) (x - 1) 0 ≡ v → Boxes lg slots own c q (set wanted x v) low high (x + 1)
-    boxes-shared h e =
-        boxes-more low high B
-        (subst (λ (u : ℕ). u ≤ lg .steps → BoxTo lg slots own c q low high u (slotCount slots))
-        (sym (getD-set-other wanted x (x - 1) v 0 (omega arith)) ∙ e) (B (x - 1) (omega arith) .box))
+    module _ (long : 2 * x + 1 < length spans) where
+      -- its box has the numbers a and b
+      boxes-noted : (a b : ℕ) (bounds' : List ℕ) (r : ℕ) → k ≤ r → b ≤ r → ((z : ℕ) → z < 3 * k → getD bounds' z 0 ≡ getD bounds z 0)
+          → Narrowed lg (slotCount slots) (AllowsRow lg slots own c q v) bounds' a bounds' b
+          → Boxes lg slots own c q (set wanted x v) (set (set spans (2 * x) a) (2 * x + 1) b) bounds' (x + 1) r
+      boxes-noted a b bounds' r more few kept new =
+          let s = set spans (2 * x) a in
+          let e = length-set spans (2 * x) a in
+          let ha : getD (set s (2 * x + 1) b) (2 * x) 0 ≡ a =
+          getD-set-other s (2 * x + 1) (2 * x) b 0 (omega arith) ∙ getD-set-same spans (2 * x) a 0 (omega arith) in
+          let hb : getD (set s (2 * x + 1) b) (2 * x + 1) 0 ≡ b = getD-set-same s (2 * x + 1) b 0 (omega arith) in
+          boxes-more (set s (2 * x + 1) b) bounds' r more kept
+          (λ y h. getD-set-other s (2 * x + 1) y b 0 (omega arith) ∙ getD-set-other spans (2 * x) y a 0 (omega arith)) (rw (ha, hb) (record { wants = w; box = λ _. new; few = λ _. few }))
 
-    -- its box is made: a grade before it that wants another level keeps its own, and one that wants the same has it anew
-    pub boxes-made : (low' high' : List ℕ) → slotCount slots ≤ 16 → OthersKept v low low' → OthersKept v high high'
-        → BoxTo lg slots own c q low' high' v (slotCount slots) → Boxes lg slots own c q (set wanted x v) low' high' (x + 1)
-    boxes-made low' high' few kl kh new =
-        boxes-more low' high'
-        (λ y h. let u = B y h in record {
-          wants = u .wants;
-          box = λ l. dite (ℕ-discrete (getD wanted y 0) v)
-              (λ e. subst (λ (z : ℕ). BoxTo lg slots own c q low' high' z (slotCount slots)) (sym e) new)
-              (λ n j m. rw (kl (getD wanted y 0) j n (omega arith), kh (getD wanted y 0) j n (omega arith)) (u .box l j m));
-        }) (λ _. new)
+      -- the grade before wants the same: it has the same box
+      pub boxes-shared : 0 < x → v ≤ lg .steps → getD (set wanted x v) (x - 1) 0 ≡ v
+          → Boxes lg slots own c q (set wanted x v) (set (set spans (2 * x) (getD spans (2 * (x - 1)) 0)) (2 * x + 1) (getD spans (2 * (x - 1) + 1) 0)) bounds (x + 1) k
+      boxes-shared h l g =
+          let u = B (x - 1) (omega arith) in
+          let e = sym (getD-set-other wanted x (x - 1) v 0 (omega arith)) ∙ g in
+          boxes-noted (getD spans (2 * (x - 1)) 0) (getD spans (2 * (x - 1) + 1) 0) bounds k (omega arith) (u .few (omega (arith, e))) (λ z _. refl)
+          (subst (λ (z : ℕ). Narrowed lg (slotCount slots) (AllowsRow lg slots own c q z) bounds (getD spans (2 * (x - 1)) 0) bounds (getD spans (2 * (x - 1) + 1) 0)) e
+          (u .box (omega (arith, e))))
 
-pub others-set : (v j a : ℕ) (old new : List ℕ) → j < 16 → OthersKept v old new → OthersKept v old (set new (16 * v + j) a)
-others-set v j a old new h f u i n l = getD-set-other new (16 * v + j) (16 * u + i) a 0 (omega arith) ∙ f u i n l
+      -- its box is made
+      pub boxes-made : (bounds' : List ℕ) (r : ℕ) → Narrowed lg (slotCount slots) (AllowsRow lg slots own c q v) bounds k bounds' r
+          → Boxes lg slots own c q (set wanted x v) (set (set spans (2 * x) k) (2 * x + 1) r) bounds' (x + 1) r
+      boxes-made bounds' r made =
+          boxes-noted k r bounds' r (made .more) (omega arith) (made .kept) (narrowed-last lg (slotCount slots) _ bounds k bounds' r made)
 
 -- ---- the search
 
+-- row d of a table, and its entry j
+pub row-long : (table : List ℕ) (d : ℕ) → 16 * d + 16 ≤ length table → length (rowIn table d) ≡ 16
+row-long table d h = length-take-le 16 (drop (16 * d) table) (omega (arith, length-drop (16 * d) table))
+
+pub row-at : (table : List ℕ) (d j : ℕ) → j < 16 → getD (rowIn table d) j 0 ≡ cell table d j
+row-at table d j h = getD-take 16 (drop (16 * d) table) j 0 h ∙ getD-drop (16 * d) table j 0
+
 -- the rows in their boxes are the witnesses', and so the next hit is the next witness
-module _ (T : Tables) (R : Ready T) (c q : ℕ) (hq : q < slotCount (T .slots)) (wanted low high : List ℕ)
-    (b : Boxes (T .logic) (T .slots) (T .own) c q wanted low high (T .logic .steps + 1)) where
-  inside-witness : (d : ℕ) → d < T .targets → Inside (T .logic .steps) (slotCount (T .slots)) q wanted low high (T .child) d ↔ Witness T c q d
-  inside-witness d h =
+module _ (T : Tables) (R : Ready T) (c q : ℕ) (hq : q < slotCount (T .slots)) (wanted spans bounds : List ℕ) (k : ℕ)
+    (b : Boxes (T .logic) (T .slots) (T .own) c q wanted spans bounds (T .logic .steps + 1) k) (long : 3 * k ≤ length bounds) where
+  abbrev N : ℕ
+  N = T .logic .steps
+
+  abbrev m : ℕ
+  m = slotCount (T .slots)
+
+  -- the box of the grade x
+  box-at : (x : ℕ) → x ≤ N → getD wanted x 0 ≤ N → BoxOf (T .logic) m (AllowsRow (T .logic) (T .slots) (T .own) c q (getD wanted x 0)) (boxOf N wanted spans bounds x)
+  box-at x h l = let u = b x (omega arith) in box-part (T .logic) m _ bounds _ bounds _ (u .box l) (omega (arith, u .few l))
+
+  pub boxes-legible : Legible N wanted spans bounds 16
+  boxes-legible x h l =
+      let u = b x (omega arith) in
+      (u .box l .more, omega (arith, u .few l), λ i g. omega (arith, box-at x h l .columns i g, R .few))
+
+  at : (d j : ℕ) → j < m → getD (rowIn (T .child) d) j 0 ≡ cell (T .child) d j
+  at d j l = row-at (T .child) d j (omega (arith, R .few))
+
+  on-chain : (d : ℕ) → d < T .targets → OnChain (T .logic) m (rowIn (T .child) d)
+  on-chain d h j l = rw (at d j l) (R .child-le d j h l)
+
+  in-box-witness : (d : ℕ) → d < T .targets → InBox N wanted spans bounds q (rowIn (T .child) d) ↔ Witness T c q d
+  in-box-witness d h =
       let x = cell (T .child) d q in
       let v = getD wanted x 0 in
-      let u = b x (omega (arith, R .child-le d q h hq)) in (
-        λ i. (v, i .0, u .wants v (i .0) .0 (le-refl _), λ j l. u .box (i .0) j l (cell (T .child) d j) (R .child-le d j h l) .0 (i .1 j l)),
+      let hx = R .child-le d q h hq in
+      let u = b x (omega arith) in
+      rw (at d q hq) (
+        λ i. (v, i .0, u .wants v (i .0) .0 (le-refl _), λ j l. rw (← at d j l) (box-at x hx (i .0) .exact (rowIn (T .child) d) (on-chain d h) .0 (i .1) j l)),
         λ w.
-            let k = u .wants (w .0) (w .1) .1 (w .2) in
-            let n = le-trans k (w .1) in (
+            let g = u .wants (w .0) (w .1) .1 (w .2) in
+            let n = le-trans g (w .1) in (
               n,
-              λ j l. u .box n j l (cell (T .child) d j) (R .child-le d j h l) .1
-                  (λ e. within-trans (slotQuantifier (T .slots) j) _ _ _
+              box-at x hx n .exact (rowIn (T .child) d) (on-chain d h) .1 (λ j l. rw (at d j l) (λ e.
+                  within-trans (slotQuantifier (T .slots) j) _ _ _
                   (through-mono (T .logic .steps) (connectivesOf (T .logic)) (logic-lawful (T .logic)) (slotQuantifier (T .slots) j) v (w .0)
-                  (cell (T .child) d j) k (w .1) (R .child-le d j h l)) (w .3 j l e)),
+                  (cell (T .child) d j) g (w .1) (R .child-le d j h l)) (w .3 j l e))),
             ),
       )
 
-  pub next-witness : (marks : List ℕ) → length marks ≡ T .targets → (start r : ℕ)
-      → NextHit (T .logic .steps) (slotCount (T .slots)) q wanted low high (T .child) marks start r → NextWitness T marks c q start r
+  pub next-witness : (marks : List ℕ) → length marks ≡ T .targets → (start r : ℕ) → NextHit N wanted spans bounds q (T .child) marks start r
+      → NextWitness T marks c q start r
   next-witness marks size start r f = record {
-    passed = λ d l s o w. f .passed d l s (o, inside-witness d (omega (arith, marked-lt marks d o)) .1 w);
-    found = λ h. let u = f .found (omega arith) in (u .0, inside-witness r h .0 (u .1));
+    passed = λ d l s o w. f .passed d l s (o, in-box-witness d (omega (arith, marked-lt marks d o)) .1 w);
+    found = λ h. let u = f .found (omega arith) in (u .0, in-box-witness r h .0 (u .1));
   }
 
 -- ---- the memory

@@ -1,14 +1,13 @@
 -- The search for witnesses by the tables: when a target is a witness of a source, the boxes of grades in which the children of a witness lie, the
 -- next marked target in its box, and what is remembered of earlier searches.
 -- Assumes nothing.
-use mathlib.Core.Path.{_≡_}
-use mathlib.Core.Logic.{_↔_}
 use mathlib.Core.List.{List, []}
-use Prim.Native.Nat.{ℕ, _+_, _-_, _≤_, _<_}
-use lib.ListN.{length, getD}
+use Prim.Native.Nat.{ℕ, _+_, _-_, _*_, _≤_, _<_}
+use lib.ListN.{length, getD, take, drop}
 use Rattle.chain.specs.Connectives.{Reaches, Wants}
 use Rattle.gradings.specs.Gradings.{connectivesOf, grading}
 use Rattle.gradings.specs.declared.Logic.{Logic}
+use Rattle.boxes.specs.Boxes.{boundCount, boundAt, Inside, part, Narrowed}
 use Rattle.slots.specs.Slots.{slotCount, slotRole, slotQuantifier, SlotAllows}
 use Rattle.elimination.specs.Marks.{Marked}
 use Rattle.witnesses.specs.Tables.{cell, Tables}
@@ -33,48 +32,54 @@ Witness T c q d =
     × Reaches (connectivesOf (T .logic)) (slotQuantifier (T .slots) q) s (cell (T .child) d q) (cell (T .own) c q)
     × ((j : ℕ) → j < slotCount (T .slots) → AllowsAt (T .logic) (T .slots) (T .own) c q s j (cell (T .child) d j))
 
--- ---- the boxes: for each level that is wanted the bounds on each slot's child, in rows of 16
+-- ---- the boxes: for each grade of the slot's own child the bounds on the rows of witnesses
+
+-- row d of a table
+abbrev pub rowIn : (table : List ℕ) (d : ℕ) → List ℕ
+rowIn table d = take 16 (drop (16 * d) table)
 
 module _ (l : Logic) (slots own : List ℕ) (c q : ℕ) where
-  -- from a to b the grades of slot j's child at which a link of level v is allowed
-  abbrev pub Between : (v j a b : ℕ) → Type 0
-  Between v j a b = (y : ℕ) → y ≤ l .steps → ((a ≤ y) × (y ≤ b)) ↔ AllowsAt l slots own c q v j y
+  -- every slot allows a link of level v to a target with this row
+  abbrev pub AllowsRow : (v : ℕ) (row : List ℕ) → Type 0
+  AllowsRow v row = (j : ℕ) → j < slotCount slots → AllowsAt l slots own c q v j (getD row j 0)
 
-  -- row v is the box of level v, as far as the slots below m go
-  abbrev pub BoxTo : (low high : List ℕ) (v m : ℕ) → Type 0
-  BoxTo low high v m = (j : ℕ) → j < m → Between v j (cell low v j) (cell high v j)
-
-  -- the grade x wants level v, and if that is on the chain it has its box
-  pub record BoxFor (low high : List ℕ) (x v : ℕ) : Type 0 where
+  -- the grade x wants level v, and if that is on the chain the bounds from number a up to number b, of k, are the box of that level
+  pub record BoxFor (bounds : List ℕ) (k x v a b : ℕ) : Type 0 where
     pub wants : WantsAt l slots own c q x v
-    pub box : v ≤ l .steps → BoxTo low high v (slotCount slots)
+    pub box : v ≤ l .steps → Narrowed l (slotCount slots) (AllowsRow v) bounds a bounds b
+    pub few : v ≤ l .steps → b ≤ k
 
-  -- for every grade below n, with the level that is noted for it
-  abbrev pub Boxes : (wanted low high : List ℕ) (n : ℕ) → Type 0
-  Boxes wanted low high n = (x : ℕ) → x < n → BoxFor low high x (getD wanted x 0)
-
--- but for row v, all is as it was
-abbrev pub OthersKept : (v : ℕ) (old new : List ℕ) → Type 0
-OthersKept v old new = (u j : ℕ) → ¬ (u ≡ v) → j < 16 → cell new u j ≡ cell old u j
+  -- for every grade below n, with the level and the two numbers that are noted for it
+  abbrev pub Boxes : (wanted spans bounds : List ℕ) (n k : ℕ) → Type 0
+  Boxes wanted spans bounds n k = (x : ℕ) → x < n → BoxFor bounds k x (getD wanted x 0) (getD spans (2 * x) 0) (getD spans (2 * x + 1) 0)
 
 -- ---- the search
 
-module _ (N m q : ℕ) (wanted low high child : List ℕ) where
-  -- row d of the children's grades lies in the box, of m slots, of the level that is wanted for its grade at slot q
-  abbrev pub Inside : ℕ → Type 0
-  Inside d =
-      (getD wanted (cell child d q) 0 ≤ N)
-      × ((j : ℕ) → j < m
-      → (cell low (getD wanted (cell child d q) 0) j ≤ cell child d j) × (cell child d j ≤ cell high (getD wanted (cell child d q) 0) j))
+module _ (N : ℕ) (wanted spans bounds : List ℕ) where
+  -- the box that is noted for the grade x
+  abbrev pub boxOf : (x : ℕ) → List ℕ
+  boxOf x = part bounds (getD spans (2 * x) 0) (getD spans (2 * x + 1) 0)
 
-  -- d is marked, and its row lies in the box
-  abbrev pub Hit : (marks : List ℕ) → ℕ → Type 0
-  Hit marks d = Marked marks d × Inside d
+  -- the boxes can be read, and bound columns below m
+  abbrev pub Legible : (m : ℕ) → Type 0
+  Legible m =
+      (x : ℕ) → x ≤ N → getD wanted x 0 ≤ N
+      → (getD spans (2 * x) 0 ≤ getD spans (2 * x + 1) 0) × (3 * getD spans (2 * x + 1) 0 ≤ length bounds)
+      × ((i : ℕ) → i < boundCount (boxOf x) → boundAt (boxOf x) i .column < m)
 
-  -- r is the first hit from `start` on, or past the last target
-  pub record NextHit (marks : List ℕ) (start r : ℕ) : Type 0 where
-    pub passed : (d : ℕ) → d < r → start ≤ d → ¬ Hit marks d
-    pub found : r < length marks → Hit marks r
+  -- a row lies in the box for its grade at slot q
+  abbrev pub InBox : (q : ℕ) (row : List ℕ) → Type 0
+  InBox q row = (getD wanted (getD row q 0) 0 ≤ N) × Inside (boxOf (getD row q 0)) row
+
+  module _ (q : ℕ) (child : List ℕ) where
+    -- d is marked, and row d of the children's grades lies in its box
+    abbrev pub Hit : (marks : List ℕ) → ℕ → Type 0
+    Hit marks d = Marked marks d × InBox q (rowIn child d)
+
+    -- r is the first hit from `start` on, or past the last target
+    pub record NextHit (marks : List ℕ) (start r : ℕ) : Type 0 where
+      pub passed : (d : ℕ) → d < r → start ≤ d → ¬ Hit marks d
+      pub found : r < length marks → Hit marks r
 
 -- r is the first marked witness of slot q of c from `start` on, or past the last target
 pub record NextWitness (T : Tables) (marks : List ℕ) (c q start r : ℕ) : Type 0 where

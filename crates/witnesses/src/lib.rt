@@ -1,27 +1,27 @@
 // The search for witnesses by tables of grades: of a source, a row of the slots' own grades, among the marked targets, rows of their children's.
+ghost use mathlib.Core.Path.{_≡_};
 ghost use Prim.Native.Nat.{ℕ, _+_, _*_, _-_, _<_, _≤_};
-ghost use lib.ListN.{length};
+ghost use lib.ListN.{length, getD, set};
 ghost use Rattle.chain.specs.Decisions.{Tells};
+ghost use Rattle.boxes.specs.Boxes.{Asks, Narrowed};
 ghost use Rattle.slots.specs.Slots.{slotCount, slotKind};
 ghost use Rattle.elimination.specs.Marks.{Marked};
 ghost use Rattle.witnesses.specs.Tables.{cell, tables, Ready};
-ghost use Rattle.witnesses.specs.Search.{Between, BoxTo, Boxes, OthersKept, Inside, Hit, NextHit, NextWitness, Remembers, Backed, Supported};
+ghost use Rattle.witnesses.specs.Search.{AllowsAt, AllowsRow, rowIn, Boxes, Legible, InBox, Hit, NextHit, NextWitness, Remembers, Backed, Supported};
+use boxes::Bound;
+use boxes::inside;
+use boxes::put_bound;
 use gradings::Logic;
 use gradings::bound;
 use gradings::governs;
 use gradings::wants;
 use sections::wide;
 
-// The bounds on the grade of a slot's child.
-struct Interval {
-    low: u8,
-    high: u8,
-}
-
 // ---- the boxes of grades in which the children of a witness lie
 
-// The grades of the child of slot `j` at which it allows a link of this level for the role of slot `q`.
-fn bounds_of(
+// What slot `j` asks of the row of a target for a link of this level for the role of slot `q`: no link is worked out, only how far its child's
+// grade may go.
+fn bound_of(
     logic: Logic,
     slots: &[u8],
     own: &[u8],
@@ -29,13 +29,15 @@ fn bounds_of(
     q: usize,
     j: usize,
     level: u8,
-) -> Interval
+) -> Bound
     requires { ⌜ (q < slotCount (now slots)) × (j < slotCount (now slots)) × (slotCount (now slots) ≤ 16) × (c < 16384) × (16 * c + 16 ≤ length (now own)) ⌝ }
     requires { ⌜ (level ≤ logic .steps) × (4 ≤ slotKind (now slots) j) × (slotKind (now slots) j ≤ 5) × (cell (now own) c j ≤ logic .steps) ⌝ }
-    ensures { λ r. ⌜ Between logic (now (slots .entry)) (now (own .entry)) c q level j (r .low) (r .high) ⌝ }
+    ensures { λ r. ⌜ Asks logic (slotCount (now (slots .entry))) (λ row. AllowsAt logic (now (slots .entry)) (now (own .entry)) c q level j (getD row j 0)) r ⌝ }
 {
+    let column = j as u8;
     if !governs(logic, slots[4 * j + 1], slots[4 * q + 1]) {
-        return Interval {
+        return Bound {
+            column: column,
             low: 0,
             high: logic.steps,
         };
@@ -43,15 +45,21 @@ fn bounds_of(
     let kind = slots[4 * j];
     let edge = bound(logic, kind, level, own[16 * c + j]);
     if kind == 4 {
-        return Interval { low: 0, high: edge };
+        return Bound {
+            column: column,
+            low: 0,
+            high: edge,
+        };
     }
-    Interval {
+    Bound {
+        column: column,
         low: edge,
         high: logic.steps,
     }
 }
 
-// Makes the box of a level for slot `q` of source `c`: no link is worked out, only what each slot asks of its child's grade.
+// Adds the box of a level for slot `q` of source `c` behind the first `start` bounds: the later slots first, as they change least from target to
+// target. The number of bounds.
 fn make_box(
     logic: Logic,
     slots: &[u8],
@@ -59,28 +67,37 @@ fn make_box(
     c: usize,
     q: usize,
     level: u8,
-    low: &mut [u8],
-    high: &mut [u8],
-)
+    bounds: &mut [u8],
+    start: usize,
+) -> usize
     requires { ⌜ (q < slotCount (now slots)) × (slotCount (now slots) ≤ 16) × (c < 16384) × (16 * c + 16 ≤ length (now own)) ⌝ }
-    requires { ⌜ (logic .steps ≤ 16) × (level ≤ logic .steps) × (272 ≤ length (now low)) × (272 ≤ length (now high)) ⌝ }
+    requires { ⌜ (level ≤ logic .steps) × (3 * start + 48 ≤ length (now bounds)) ⌝ }
     requires { ⌜ ((j : ℕ) → j < slotCount (now slots) → (4 ≤ slotKind (now slots) j) × (slotKind (now slots) j ≤ 5) × (cell (now own) c j ≤ logic .steps)) ⌝ }
-    ensures { λ _. ⌜ BoxTo logic (now (slots .entry)) (now (own .entry)) c q (now (low .exit)) (now (high .exit)) level (slotCount (now (slots .entry))) ⌝ }
-    ensures { λ _. ⌜ OthersKept level (now (low .entry)) (now (low .exit)) × OthersKept level (now (high .entry)) (now (high .exit)) ⌝ }
+    ensures { λ r. ⌜ Narrowed logic (slotCount (now (slots .entry))) (AllowsRow logic (now (slots .entry)) (now (own .entry)) c q level) (now (bounds .entry)) start (now (bounds .exit)) r ⌝ }
+    ensures { λ r. ⌜ r ≤ start + 16 ⌝ }
 {
     let count = slots.len() / 4;
-    let row = 16 * wide(level);
-    let mut j = 0;
-    while j < count {
-        let b = bounds_of(logic, slots, own, c, q, j, level);
-        low[row + j] = b.low;
-        high[row + j] = b.high;
-        j += 1;
+    let mut m = start;
+    let mut j = count;
+    while 0 < j {
+        j -= 1;
+        let b = bound_of(logic, slots, own, c, q, j, level);
+        m = put_bound(logic, count, b, bounds, m);
     }
+    m
 }
 
-// Notes the level that slot `q` of source `c` wants where its own child has grade `x`, and makes its box, unless the grade before wants the same
-// or none on the chain is enough.
+// Notes where the box for grade `x` begins and ends.
+fn put_span(spans: &mut [u16], x: usize, a: u16, b: u16)
+    requires { ⌜ (x < 17) × (34 ≤ length (now spans)) ⌝ }
+    ensures { λ _. ⌜ now (spans .exit) ≡ set (set (now (spans .entry)) (2 * x) a) (2 * x + 1) b ⌝ }
+{
+    spans[2 * x] = a;
+    spans[2 * x + 1] = b;
+}
+
+// Notes the level that slot `q` of source `c` wants where its own child has grade `x`, and its box; this is made unless the grade before wants the
+// same or none on the chain is enough. The number of bounds.
 fn make_box_for(
     logic: Logic,
     slots: &[u8],
@@ -89,30 +106,37 @@ fn make_box_for(
     q: usize,
     x: u8,
     wanted: &mut [u8],
-    low: &mut [u8],
-    high: &mut [u8],
-)
+    spans: &mut [u16],
+    bounds: &mut [u8],
+    k: usize,
+) -> usize
     requires { ⌜ (q < slotCount (now slots)) × (slotCount (now slots) ≤ 16) × (c < 16384) × (16 * c + 16 ≤ length (now own)) ⌝ }
-    requires { ⌜ (logic .steps ≤ 16) × (x ≤ logic .steps) × (17 ≤ length (now wanted)) × (272 ≤ length (now low)) × (272 ≤ length (now high)) ⌝ }
+    requires { ⌜ (logic .steps ≤ 16) × (x ≤ logic .steps) × (17 ≤ length (now wanted)) × (34 ≤ length (now spans)) × (816 ≤ length (now bounds)) × (k ≤ 16 * x) ⌝ }
     requires { ⌜ ((j : ℕ) → j < slotCount (now slots) → (4 ≤ slotKind (now slots) j) × (slotKind (now slots) j ≤ 5) × (cell (now own) c j ≤ logic .steps)) ⌝ }
-    requires { ⌜ Boxes logic (now slots) (now own) c q (now wanted) (now low) (now high) x ⌝ }
-    ensures { λ _. ⌜ Boxes logic (now (slots .entry)) (now (own .entry)) c q (now (wanted .exit)) (now (low .exit)) (now (high .exit)) (x + 1) ⌝ }
+    requires { ⌜ Boxes logic (now slots) (now own) c q (now wanted) (now spans) (now bounds) x k ⌝ }
+    ensures { λ r. ⌜ Boxes logic (now (slots .entry)) (now (own .entry)) c q (now (wanted .exit)) (now (spans .exit)) (now (bounds .exit)) (x + 1) r ⌝ }
+    ensures { λ r. ⌜ r ≤ k + 16 ⌝ }
 {
     let level = wants(logic, slots[4 * q], own[16 * c + q], x);
-    let at = wide(x);
+    let at = x as usize;
     wanted[at] = level;
     if logic.steps < level {
-        return;
+        return k;
     }
     if 0 < at {
         if wanted[at - 1] == level {
-            return;
+            let a = spans[2 * (at - 1)];
+            let b = spans[2 * (at - 1) + 1];
+            put_span(spans, at, a, b);
+            return k;
         }
     }
-    make_box(logic, slots, own, c, q, level, low, high);
+    let r = make_box(logic, slots, own, c, q, level, bounds, k);
+    put_span(spans, at, k as u16, r as u16);
+    r
 }
 
-// Does so for every grade.
+// Does so for every grade. The number of bounds.
 fn make_boxes(
     logic: Logic,
     slots: &[u8],
@@ -120,100 +144,93 @@ fn make_boxes(
     c: usize,
     q: usize,
     wanted: &mut [u8],
-    low: &mut [u8],
-    high: &mut [u8],
-)
+    spans: &mut [u16],
+    bounds: &mut [u8],
+) -> usize
     requires { ⌜ (q < slotCount (now slots)) × (slotCount (now slots) ≤ 16) × (c < 16384) × (16 * c + 16 ≤ length (now own)) ⌝ }
-    requires { ⌜ (logic .steps ≤ 16) × (17 ≤ length (now wanted)) × (272 ≤ length (now low)) × (272 ≤ length (now high)) ⌝ }
+    requires { ⌜ (logic .steps ≤ 16) × (17 ≤ length (now wanted)) × (34 ≤ length (now spans)) × (816 ≤ length (now bounds)) ⌝ }
     requires { ⌜ ((j : ℕ) → j < slotCount (now slots) → (4 ≤ slotKind (now slots) j) × (slotKind (now slots) j ≤ 5) × (cell (now own) c j ≤ logic .steps)) ⌝ }
-    ensures { λ _. ⌜ Boxes logic (now (slots .entry)) (now (own .entry)) c q (now (wanted .exit)) (now (low .exit)) (now (high .exit)) (logic .steps + 1) ⌝ }
+    ensures { λ r. ⌜ Boxes logic (now (slots .entry)) (now (own .entry)) c q (now (wanted .exit)) (now (spans .exit)) (now (bounds .exit)) (logic .steps + 1) r × (r ≤ 272) ⌝ }
 {
     let steps = logic.steps;
+    let mut k = 0;
     let mut x = 0;
     while x <= steps {
-        make_box_for(logic, slots, own, c, q, x, wanted, low, high);
+        k = make_box_for(logic, slots, own, c, q, x, wanted, spans, bounds, k);
         x += 1;
     }
+    k
 }
 
 // ---- the search
 
-// Does row `d` lie in the box of its grade at slot `q`, of `slots` slots? The first slot outside it decides.
-fn inside(
-    logic: Logic,
-    wanted: &[u8],
-    low: &[u8],
-    high: &[u8],
-    slots: usize,
-    q: usize,
-    child: &[u8],
-    d: usize,
-) -> bool
-    requires { ⌜ (logic .steps ≤ 16) × (17 ≤ length (now wanted)) × (272 ≤ length (now low)) × (272 ≤ length (now high)) ⌝ }
-    requires { ⌜ (slots ≤ 16) × (q < slots) × (d < 16384) × (16 * d + 16 ≤ length (now child)) × (cell (now child) d q ≤ 16) ⌝ }
-    ensures { λ r. ⌜ Tells r (Inside (logic .steps) slots q (now (wanted .entry)) (now (low .entry)) (now (high .entry)) (now (child .entry)) d) ⌝ }
+// Row `d` of a table.
+fn row_of(table: &[u8], d: usize) -> &[u8]
+    requires { ⌜ (d < 16384) × (16 * d + 16 ≤ length (now table)) ⌝ }
+    ensures { λ r. ⌜ now r ≡ rowIn (now (table .entry)) d ⌝ }
 {
-    let level = wanted[wide(child[16 * d + q])];
-    if logic.steps < level {
-        return false;
-    }
-    let row = 16 * wide(level);
-    let mut j = 0;
-    while j < slots {
-        let y = child[16 * d + j];
-        if y < low[row + j] {
-            return false;
-        }
-        if high[row + j] < y {
-            return false;
-        }
-        j += 1;
-    }
-    true
+    let start = 16 * d;
+    let end = start + 16;
+    &table[start..end]
 }
 
-// Is `d` marked, with its row in its box?
+// Does a row lie in the box for its grade at slot `q`? That grade is looked at first: most rows fail there.
+fn in_box(logic: Logic, wanted: &[u8], spans: &[u16], bounds: &[u8], q: usize, row: &[u8]) -> bool
+    requires { ⌜ (logic .steps ≤ 16) × (17 ≤ length (now wanted)) × (34 ≤ length (now spans)) × (q < 16) × (length (now row) ≡ 16) × (getD (now row) q 0 ≤ logic .steps) ⌝ }
+    requires { ⌜ Legible (logic .steps) (now wanted) (now spans) (now bounds) 16 ⌝ }
+    ensures { λ r. ⌜ Tells r (InBox (logic .steps) (now (wanted .entry)) (now (spans .entry)) (now (bounds .entry)) q (now (row .entry))) ⌝ }
+{
+    let x = row[q] as usize;
+    if logic.steps < wanted[x] {
+        return false;
+    }
+    let start = 3 * (spans[2 * x] as usize);
+    let end = 3 * (spans[2 * x + 1] as usize);
+    inside(&bounds[start..end], row)
+}
+
+// Is `d` marked, with its row in its box? The mark is looked at last: few rows come so far.
 fn hit(
     logic: Logic,
     wanted: &[u8],
-    low: &[u8],
-    high: &[u8],
-    slots: usize,
+    spans: &[u16],
+    bounds: &[u8],
     q: usize,
     child: &[u8],
     marks: &[u8],
     d: usize,
 ) -> bool
-    requires { ⌜ (logic .steps ≤ 16) × (17 ≤ length (now wanted)) × (272 ≤ length (now low)) × (272 ≤ length (now high)) ⌝ }
-    requires { ⌜ (slots ≤ 16) × (q < slots) × (d < 16384) × (16 * d + 16 ≤ length (now child)) × (cell (now child) d q ≤ 16) × (d < length (now marks)) ⌝ }
-    ensures { λ r. ⌜ Tells r (Hit (logic .steps) slots q (now (wanted .entry)) (now (low .entry)) (now (high .entry)) (now (child .entry)) (now (marks .entry)) d) ⌝ }
+    requires { ⌜ (logic .steps ≤ 16) × (17 ≤ length (now wanted)) × (34 ≤ length (now spans)) × (q < 16) ⌝ }
+    requires { ⌜ (d < 16384) × (16 * d + 16 ≤ length (now child)) × (cell (now child) d q ≤ logic .steps) × (d < length (now marks)) ⌝ }
+    requires { ⌜ Legible (logic .steps) (now wanted) (now spans) (now bounds) 16 ⌝ }
+    ensures { λ r. ⌜ Tells r (Hit (logic .steps) (now (wanted .entry)) (now (spans .entry)) (now (bounds .entry)) q (now (child .entry)) (now (marks .entry)) d) ⌝ }
 {
-    if marks[d] != 1 {
+    if !in_box(logic, wanted, spans, bounds, q, row_of(child, d)) {
         return false;
     }
-    inside(logic, wanted, low, high, slots, q, child, d)
+    marks[d] == 1
 }
 
 // The first such target from `start` on, or a number past the last.
 fn next_hit(
     logic: Logic,
     wanted: &[u8],
-    low: &[u8],
-    high: &[u8],
-    slots: usize,
+    spans: &[u16],
+    bounds: &[u8],
     q: usize,
     child: &[u8],
     marks: &[u8],
     start: usize,
 ) -> usize
-    requires { ⌜ (logic .steps ≤ 16) × (17 ≤ length (now wanted)) × (272 ≤ length (now low)) × (272 ≤ length (now high)) ⌝ }
-    requires { ⌜ (slots ≤ 16) × (q < slots) × (length (now marks) ≤ 16384) × (16 * length (now marks) ≤ length (now child)) ⌝ }
-    requires { ⌜ ((d : ℕ) → d < length (now marks) → cell (now child) d q ≤ 16) ⌝ }
-    ensures { λ r. ⌜ NextHit (logic .steps) slots q (now (wanted .entry)) (now (low .entry)) (now (high .entry)) (now (child .entry)) (now (marks .entry)) start r ⌝ }
+    requires { ⌜ (logic .steps ≤ 16) × (17 ≤ length (now wanted)) × (34 ≤ length (now spans)) × (q < 16) ⌝ }
+    requires { ⌜ (length (now marks) ≤ 16384) × (16 * length (now marks) ≤ length (now child)) ⌝ }
+    requires { ⌜ ((d : ℕ) → d < length (now marks) → cell (now child) d q ≤ logic .steps) ⌝ }
+    requires { ⌜ Legible (logic .steps) (now wanted) (now spans) (now bounds) 16 ⌝ }
+    ensures { λ r. ⌜ NextHit (logic .steps) (now (wanted .entry)) (now (spans .entry)) (now (bounds .entry)) q (now (child .entry)) (now (marks .entry)) start r ⌝ }
 {
     let mut d = start;
     while d < marks.len() {
-        if hit(logic, wanted, low, high, slots, q, child, marks, d) {
+        if hit(logic, wanted, spans, bounds, q, child, marks, d) {
             return d;
         }
         d += 1;
@@ -238,20 +255,19 @@ fn next_witness(
     ensures { λ r. ⌜ NextWitness (tables logic sources (length (now (marks .entry))) (now (slots .entry)) (now (own .entry)) (now (child .entry))) (now (marks .entry)) c q start r ⌝ }
 {
     let mut wanted = [0u8; 17];
-    let mut low = [0u8; 272];
-    let mut high = [0u8; 272];
-    make_boxes(logic, slots, own, c, q, &mut wanted, &mut low, &mut high);
-    next_hit(
+    let mut spans = [0u16; 34];
+    let mut bounds = [0u8; 816];
+    make_boxes(
         logic,
-        &wanted,
-        &low,
-        &high,
-        slots.len() / 4,
+        slots,
+        own,
+        c,
         q,
-        child,
-        marks,
-        start,
-    )
+        &mut wanted,
+        &mut spans,
+        &mut bounds,
+    );
+    next_hit(logic, &wanted, &spans, &bounds, q, child, marks, start)
 }
 
 // ---- one source

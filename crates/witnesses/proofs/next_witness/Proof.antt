@@ -5,7 +5,7 @@ use native.Mathlib.Omega.{arith}
 use lib.ListN.{length}
 use borrow.Author.Needs.{needs}
 use Rattle.witnesses.specs.Tables.{tables}
-use Rattle.witnesses.proofs.Search.{next-witness}
+use Rattle.witnesses.proofs.Search.{boxes-legible, next-witness}
 use Rattle.witnesses.proofs.next_witness.Statement.{statement}
 use Rattle.witnesses.proofs.next_witness.Tie as tie
 
@@ -23,7 +23,7 @@ make-boxes-requires c κs =
     let s = c .before .before .before .before .before .before .before in
     let R = s .pre .0 in
     let p = s .pre .1 in (
-      (p .2, R .few, omega arith, omega (arith, R .own-room)),
+      (p .2, R .few, omega (arith, p), omega (arith, p, R .own-room)),
       ((R .low-steps, omega arith, omega arith, omega arith), λ j h. let k = R .kinds j h in (k .0, k .1, R .own-le (s .args .c) j (p .1) h)),
     )
 
@@ -38,20 +38,39 @@ slice-aggregate-next-hit-3 c = search needs
 
 next-hit-requires : tie.Need-next-hit-requires
 next-hit-requires c κs =
-    let s = c .before .before .before .before .before .before .before .before .before .before .before .before .before .before in
+    let b = c .before .before .before .before .before .before in
+    let s = b .before .before .before .before .before .before .before .before in
+    let a = s .args in
     let R = s .pre .0 in
     let p = s .pre .1 in
-    let k = c .before .before .before .before .before .before .make-boxes .kept .1 .1 .1 .1 .1 in (
-      (R .low-steps, omega (arith, k .0), omega (arith, k .1 .0), omega (arith, k .1 .1 .0)),
-      ((R .few, p .2, p .0, R .child-room), λ d h. omega (arith, R .low-steps, R .child-le d (s .args .q) h (p .2))),
+    let v = b .make-boxes in
+    let wanted = v .last .1 .1 .1 .1 .1 .0 in
+    let spans = v .last .1 .1 .1 .1 .1 .1 .0 in
+    let bounds = v .last .1 .1 .1 .1 .1 .1 .1 .0 in
+    let k = v .kept in (
+      (R .low-steps, omega (arith, k), omega (arith, k), omega (arith, p, R .few)),
+      (
+        (p .0, R .child-room),
+        (
+          λ d h. R .child-le d (a .q) h (p .2),
+          boxes-legible (tables (a .logic) (a .sources) (length (a .marks .now)) (a .slots .now) (a .own .now) (a .child .now)) R (a .c) (a .q) (p .2) wanted spans bounds (v .result) (v .ensures .0) (omega (arith, k, v .ensures .1)),
+        ),
+      ),
     )
 
 returns : tie.Need-returns
 returns c =
-    let s = c .before .before .before .before .before .before .before .before .before .before .before .before .before .before .before in
+    let h = c in
+    let b = h .before .before .before .before .before .before .before in
+    let s = b .before .before .before .before .before .before .before .before in
     let a = s .args in
-    next-witness (tables (a .logic) (a .sources) (length (a .marks .now)) (a .slots .now) (a .own .now) (a .child .now)) (s .pre .0) (a .c) (a .q) (s .pre .1 .2) _ _ _
-    (c .before .before .before .before .before .before .before .make-boxes .ensures) (a .marks .now) refl (a .start) _ (c .next-hit .ensures)
+    let v = b .make-boxes in
+    let wanted = v .last .1 .1 .1 .1 .1 .0 in
+    let spans = v .last .1 .1 .1 .1 .1 .1 .0 in
+    let bounds = v .last .1 .1 .1 .1 .1 .1 .1 .0 in
+    let k = v .kept in
+    next-witness (tables (a .logic) (a .sources) (length (a .marks .now)) (a .slots .now) (a .own .now) (a .child .now)) (s .pre .0) (a .c) (a .q) (s .pre .1 .2) wanted spans bounds (v .result)
+    (v .ensures .0) (omega (arith, k, v .ensures .1)) (a .marks .now) refl (a .start) _ (h .next-hit .ensures)
 
 pub next-witness-spec : {M : Type 1} → statement M
 next-witness-spec =

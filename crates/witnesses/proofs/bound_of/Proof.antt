@@ -1,10 +1,13 @@
--- `witnesses::bounds_of` meets its contract.
+-- `witnesses::bound_of` meets its contract.
 -- Assumes nothing.
 use borrow.Author.Needs.{needs}
 use Rattle.chain.proofs.Decisions.{told-yes, told-no}
-use Rattle.witnesses.proofs.Search.{between-other, between-some, between-all}
-use Rattle.witnesses.proofs.bounds_of.Statement.{statement}
-use Rattle.witnesses.proofs.bounds_of.Tie as tie
+use Rattle.witnesses.proofs.Search.{bound-other, bound-some, bound-all}
+use Rattle.witnesses.proofs.bound_of.Statement.{statement}
+use Rattle.witnesses.proofs.bound_of.Tie as tie
+
+cast-column : tie.Need-cast-column
+cast-column c = search needs
 
 mul-governs : tie.Need-mul-governs
 mul-governs c = search needs
@@ -29,8 +32,10 @@ governs-requires c κs = search needs
 
 returns : tie.Need-returns
 returns c =
-    let a = c .before .before .before .before .before .before .args in
-    between-other (a .logic) (a .slots .now) (a .own .now) (a .c) (a .q) (a .level) (a .j) (told-no _ (c .before .governs .ensures) (c .if1 .taken))
+    let g = c .before in
+    let s = g .before .before .before .before .before in
+    let a = s .args in
+    bound-other (a .logic) (a .slots .now) (a .own .now) (a .c) (a .q) (a .level) (a .j) (s .pre .0 .1) (told-no _ (g .governs .ensures) (c .if1 .taken))
 
 mul-kind : tie.Need-mul-kind
 mul-kind c = search needs
@@ -52,21 +57,28 @@ bound-requires c κs = search needs
 
 returns-2 : tie.Need-returns-2
 returns-2 c =
-    let a = c .before .before .before .before .before .before .before .before .before .before .args in
-    between-some (a .logic) (a .slots .now) (a .own .now) (a .c) (a .q) (a .level) (a .j)
-    (told-yes _ (c .before .before .before .before .before .governs .ensures) (c .before .before .before .before .if1 .left)) _ (c .before .bound .ensures) (c .if2 .taken)
+    let b = c .before in
+    let i = b .before .before .before in
+    let g = i .before in
+    let s = g .before .before .before .before .before in
+    let a = s .args in
+    bound-some (a .logic) (a .slots .now) (a .own .now) (a .c) (a .q) (a .level) (a .j) (s .pre .0 .1) (told-yes _ (g .governs .ensures) (i .if1 .left)) _ (b .bound .ensures) (c .if2 .taken)
 
 returns-3 : tie.Need-returns-3
 returns-3 c =
-    let s = c .before .before .before .before .before .before .before .before .before .before in
+    let b = c .before in
+    let i = b .before .before .before in
+    let g = i .before in
+    let s = g .before .before .before .before .before in
     let a = s .args in
-    between-all (a .logic) (a .slots .now) (a .own .now) (a .c) (a .q) (a .level) (a .j)
-    (told-yes _ (c .before .before .before .before .before .governs .ensures) (c .before .before .before .before .if1 .left)) _ (c .before .bound .ensures) (s .pre .1 .1) (s .pre .1 .2) (c .if2 .left)
+    bound-all (a .logic) (a .slots .now) (a .own .now) (a .c) (a .q) (a .level) (a .j) (s .pre .0 .1) (told-yes _ (g .governs .ensures) (i .if1 .left)) _ (b .bound .ensures) (s .pre .1 .1) (s .pre .1 .2)
+    (c .if2 .left)
 
-pub bounds-of-spec : {M : Type 1} → statement M
-bounds-of-spec =
+pub bound-of-spec : {M : Type 1} → statement M
+bound-of-spec =
     tie.close
     (tie.spec
+    cast-column
     mul-governs
     add-governs
     shared-slice-read-governs
