@@ -105,7 +105,8 @@ fn alike(list: &[u8], first: &[u8], second: &[u8]) -> bool
     true
 }
 
-// A number below 16384 made from the grades that are read. Rows that look alike have the same.
+// A number below 16384 made from the grades that are read. Rows that look alike have the same. The factor is one by which few others have it too,
+// also where one grade stands in two columns, as that of a slot that is the child of another does.
 fn signature(list: &[u8], row: &[u8]) -> usize
     requires { ⌜ (32 ≤ length (now row)) × ((x : ℕ) → x < length (now list) → getD (now list) x 0 < 32) ⌝ }
     ensures { λ r. ⌜ r < 16384 ⌝ }
@@ -114,7 +115,7 @@ fn signature(list: &[u8], row: &[u8]) -> usize
     let mut x = 0;
     while x < list.len() {
         let t = wide(list[x]);
-        number = (31 * number + wide(row[t])) % 16381;
+        number = (221 * number + wide(row[t])) % 16381;
         x += 1;
     }
     number
