@@ -27,5 +27,6 @@ static verdict by_second(const hard_book *b, uint8_t *marks, uint8_t *placement)
 
 int main(int argc, char **argv) {
     (void)argc;
-    return race((racer){"first", by_first}, (racer){"second", by_second}, 4 * COPIES, (book_files){.names = argv + 1});
+    static const racer racers[] = {{"first", by_first}, {"second", by_second}};
+    return race(racers, 2, 4 * COPIES, (book_files){.names = argv + 1});
 }

@@ -1,4 +1,4 @@
-// The plain decider: what it takes and gives.
+// The plain deciders: what they take and give.
 #ifndef PLAIN_H
 #define PLAIN_H
 #include <stddef.h>
@@ -15,6 +15,8 @@ typedef struct {
 
 // Decides a book whose form is right (that is not tested). Sets one byte of `marks` per candidate and, for outcome 1, two bytes of
 // `placement` per individual; keeps all others.
-plain_result plain_decide(const uint8_t *book, uint8_t *marks, uint8_t *placement);
+typedef plain_result plain_decider(const uint8_t *book, uint8_t *marks, uint8_t *placement);
+
+plain_decider plain_decide_by_candidates, plain_decide_by_classes; // they differ in elimination alone
 
 #endif
