@@ -14,7 +14,6 @@ use Rattle.chain.specs.Search.{rank}
 use Rattle.elimination.specs.Marks.{Marked, marked?}
 use Rattle.elimination.proofs.Marks.{marked-lt, marked-set, set-marked, rank-unmarked}
 use Rattle.gradings.specs.declared.Logic.{Logic}
-use Rattle.slots.specs.Slots.{slotCount}
 use Rattle.witnesses.specs.Tables.{Tables, tables, Ready}
 use Rattle.witnesses.specs.Search.{Witness, Remembers, Supported}
 use Rattle.sweeps.specs.Sweeps.{Classes, classOf, SupportedIn, Reduced, Noted, Judged, Dropped, Counted, State, Swept, Settled}
@@ -26,12 +25,16 @@ module _ (xs marks : List ℕ) where
   noted-none seen z = record { from = λ k h. absurd (omega (arith, z k)); onto = λ c l. absurd (omega arith) }
 
   module _ (seen : List ℕ) (c : ℕ) (S : Noted xs marks seen c) where
+    earlier : (k : ℕ) → Marked seen k → (d : ℕ) × (d < c + 1) × Marked marks d × (classOf xs d ≡ k)
+    earlier k m = let u = S .from k m in (u .0, omega (arith, u .1), u .2, u .3)
+
     pub noted-other : ¬ Marked marks c → Noted xs marks seen (c + 1)
-    noted-other n = record { from = S .from; onto = below-more (λ d. Marked marks d → Marked seen (classOf xs d)) c (S .onto) (λ h. absurd (n h)) }
+    noted-other n = record { from = earlier; onto = below-more (λ d. Marked marks d → Marked seen (classOf xs d)) c (S .onto) (λ h. absurd (n h)) }
 
     pub noted-more : Marked marks c → classOf xs c < length seen → Noted xs marks (set seen (classOf xs c) 1) (c + 1)
     noted-more o h = record {
-      from = λ k m. dite (ℕ-discrete k (classOf xs c)) (λ e. (c, o, sym e)) (λ n. S .from k (sym (getD-set-other seen (classOf xs c) k 1 0 n) ∙ m));
+      from = λ k m. dite (ℕ-discrete k (classOf xs c)) (λ e. (c, omega arith, o, sym e))
+          (λ n. earlier k (sym (getD-set-other seen (classOf xs c) k 1 0 n) ∙ m));
       onto = below-more (λ d. Marked marks d → Marked (set seen (classOf xs c) 1) (classOf xs d)) c (λ d l m. stays (classOf xs d) (S .onto d l m))
           (λ _. getD-set-same seen (classOf xs c) 1 0 h);
     }
@@ -40,6 +43,13 @@ module _ (xs marks : List ℕ) where
         stays k m =
             dite (ℕ-discrete k (classOf xs c)) (λ e. subst (Marked (set seen (classOf xs c) 1)) (sym e) (getD-set-same seen (classOf xs c) 1 0 h))
             (λ n. getD-set-other seen (classOf xs c) k 1 0 n ∙ m)
+
+    -- c loses its mark
+    pub noted-unmarked : Noted xs (set marks c 0) seen (c + 1)
+    noted-unmarked = record {
+      from = λ k m. let u = S .from k m in (u .0, omega (arith, u .1), set-marked marks c (u .0) (u .2) (λ e. omega (arith, u .1)), u .3);
+      onto = λ d l m. let u = marked-set marks c d m in S .onto d (omega (arith, u .1)) (u .0);
+    }
 
 -- ---- sources
 
@@ -91,8 +101,8 @@ module _ (xs alive : List ℕ) where
     same = λ _. refl;
   }
 
-  pub dropped-then : (a b c : ℕ) → a ≤ b → b ≤ c → (marks mid after : List ℕ) (left r q : ℕ) → Dropped xs alive a b marks mid left r → Dropped xs alive b c mid after r q
-      → Dropped xs alive a c marks after left q
+  pub dropped-then : (a b c : ℕ) → a ≤ b → b ≤ c → (marks mid after : List ℕ) (left r q : ℕ) → Dropped xs alive a b marks mid left r
+      → Dropped xs alive b c mid after r q → Dropped xs alive a c marks after left q
   dropped-then a b c ab bc marks mid after left r q f g = record {
     marked = λ k. (
       λ h. let u = g .marked k .0 h in let v = f .marked k .0 (u .0) in (v .0, λ l m. dite (decLt k b) (λ p. v .1 l p) (λ p. u .1 (omega arith) m)),
@@ -145,22 +155,22 @@ module _ (K : Classes) where
   pub reduced-then : (a b c : List ℕ) → Reduced K a b → Reduced K b c → Reduced K a c
   reduced-then a b c f g = record { part = λ d h. f .part d (g .part d h); keeps = λ xs k h. g .keeps xs k (f .keeps xs k h) }
 
-  -- ---- a sweep: what is present and alive is noted by the marks, the sources are judged, the candidates of others dropped
+  -- ---- a sweep: the sources are judged by what is present, the candidates of those that are no longer alive dropped
 
-  module _ (marks present alive kept after : List ℕ) (m left r : ℕ) (sources : (c : ℕ) → c < length marks → classOf (K .source) c < m)
-      (P : Noted (K .target) marks present (length marks)) (A : Noted (K .source) marks alive (length marks)) (J : Judged (K .rows) present 0 m alive kept)
+  module _ (marks memory alive present : List ℕ) (left : ℕ) (S : State K (length marks) marks memory alive present left) (m : ℕ)
+      (sources : (c : ℕ) → c < length marks → classOf (K .source) c < m) (kept after : List ℕ) (r : ℕ) (J : Judged (K .rows) present 0 m alive kept)
       (D : Dropped (K .source) kept 0 (length marks) marks after left r) where
+    target-present : (c : ℕ) → Marked marks c → Marked present (classOf (K .target) c)
+    target-present c o = S .targets .onto c (marked-lt marks c o) o
+
     swept-reduced : Reduced K marks after
     swept-reduced = record {
       part = λ c h. D .marked c .0 h .0;
       keeps = λ xs k h c e. D .marked c .1 (
         h c e,
         λ _ l. J (classOf (K .source) c) .1 (
-          A .onto c l (h c e),
-          λ _ _ q i.
-              let u = k c e q i in
-              let o = h (u .0) (u .1) in
-              (classOf (K .target) (u .0), P .onto (u .0) (marked-lt marks (u .0) o) o, u .2),
+          S .sources .onto c l (h c e),
+          λ _ _ q i. let u = k c e q i in (classOf (K .target) (u .0), target-present (u .0) (h (u .0) (u .1)), u .2),
         ),
       );
     }
@@ -173,40 +183,48 @@ module _ (K : Classes) where
           let l = marked-lt marks c o in
           let h = D .marked c .0 (subst (λ (x : List ℕ). Marked x c) (sym (D .same e)) o) .1 (omega arith) l in
           let u = J (classOf (K .source) c) .0 h .1 (omega arith) (sources c l) q i in
-          let v = P .from (u .0) (u .1) in
-          (v .0, v .1, subst (Witness (K .rows) (classOf (K .source) c) q) (sym (v .2)) (u .2)));
+          let v = S .targets .from (u .0) (u .1) in
+          (v .0, v .2, subst (Witness (K .rows) (classOf (K .source) c) q) (sym (v .3)) (u .2)));
     }
 
-    pub swept-state : (memory memory' : List ℕ) → State K (length marks) marks memory left → Remembers (K .rows) present memory' → r ≡ rank (marked? after) (length marks)
-        → State K (length marks) after memory' r
-    swept-state memory memory' S M counted = record {
-      counted = record { bits = λ c. le-trans (D .lower c) (S .counted .bits c); number = counted };
-      remembers = λ later f e p he hp. let w = M e p he hp in record {
+    -- a source that stays alive keeps its candidates
+    still-alive : Noted (K .source) after kept (length marks)
+    still-alive = record {
+      from = λ k h.
+          let u = S .sources .from k (J k .0 h .0) in
+          (u .0, u .1, D .marked (u .0) .1 (u .2, λ _ _. subst (Marked kept) (sym (u .3)) h), u .3);
+      onto = λ c l h. D .marked c .0 h .1 (omega arith) l;
+    }
+
+    -- the targets that are present later were present before, so what is remembered of those holds of these
+    pub swept-state : (memory' later : List ℕ) → Remembers (K .rows) present memory' → r ≡ rank (marked? after) (length marks)
+        → Noted (K .target) after later (length marks) → State K (length marks) after memory' kept later r
+    swept-state memory' later M number N = record {
+      counted = record { bits = λ c. le-trans (D .lower c) (S .counted .bits c); number = number };
+      sources = still-alive;
+      targets = N;
+      remembers = λ a q ha hq. let w = M a q ha hq in record {
         within = w .within;
         known = w .known;
         passed = λ d l h.
-            let u = f d h in
-            let o = D .marked (u .0) .0 (u .1) .0 in
-            w .passed d l (subst (Marked present) (u .2) (P .onto (u .0) (marked-lt marks (u .0) o) o));
+            let u = N .from d h in
+            w .passed d l (subst (Marked present) (u .3) (target-present (u .0) (D .marked (u .0) .0 (u .2) .0)));
       };
     }
 
   -- ---- the start, and the end
 
   -- nothing is remembered yet
-  pub state-none : (n : ℕ) (marks memory : List ℕ) (left : ℕ) → slotCount (K .rows .slots) ≤ 16 → Counted n marks left
-      → ((i : ℕ) → i < 16 * K .rows .sources → getD memory i 0 ≡ 0) → State K n marks memory left
-  state-none n marks memory left few counted zeros = record {
-    counted = counted;
-    remembers = λ present _ a q ha hq.
-        let z = zeros (16 * a + q) (omega arith) in
-        record { within = omega arith; known = λ l. absurd (omega arith); passed = λ d l. absurd (omega arith) };
-  }
+  pub remembers-none : (present memory : List ℕ) → ((i : ℕ) → getD memory i 0 ≡ 0) → Remembers (K .rows) present memory
+  remembers-none present memory zeros a q _ _ =
+      let z = zeros (16 * a + q) in
+      record { within = omega arith; known = λ l. absurd (omega arith); passed = λ d l. absurd (omega arith) }
 
-  pub settled : (n : ℕ) (marks mid after memory : List ℕ) (left r : ℕ) → r ≡ left → Reduced K marks mid → State K n after memory r
-      → Swept K mid after left r → Settled K n marks after r
-  settled n marks mid after memory left r e f S W = record {
+  -- the last sweep left as many marks as there were
+  pub settled : (n : ℕ) (marks mid after : List ℕ) (left r : ℕ) → r ≡ left → Reduced K marks mid → Counted n after r → Swept K mid after left r
+      → Settled K n marks after r
+  settled n marks mid after left r e f counted W = record {
     reduced = reduced-then marks mid after f (W .reduced);
-    counted = S .counted;
+    counted = counted;
     supported = W .supported e;
   }

@@ -57,7 +57,7 @@ pub record Reduced (K : Classes) (marks after : List ℕ) : Type 0 where
 
 -- the classes that `seen` has marked are just those of the marked candidates below b
 pub record Noted (xs marks seen : List ℕ) (b : ℕ) : Type 0 where
-  pub from : (k : ℕ) → Marked seen k → (c : ℕ) × Marked marks c × (classOf xs c ≡ k)
+  pub from : (k : ℕ) → Marked seen k → (c : ℕ) × (c < b) × Marked marks c × (classOf xs c ≡ k)
   pub onto : (c : ℕ) → c < b → Marked marks c → Marked seen (classOf xs c)
 
 -- of the sources from a to b those stay alive that are supported by what is present; the others stay as they are
@@ -78,11 +78,13 @@ pub record Counted (n : ℕ) (marks : List ℕ) (left : ℕ) : Type 0 where
   pub bits : (c : ℕ) → getD marks c 0 ≤ 1
   pub number : left ≡ rank (marked? marks) n
 
--- what holds between sweeps: the marks are counted, and the memory speaks of whatever targets marked candidates have
-pub record State (K : Classes) (n : ℕ) (marks memory : List ℕ) (left : ℕ) : Type 0 where
+-- what holds between sweeps: the marks are counted, the sources of the marked candidates are alive and their targets present, and no others, and
+-- the memory speaks of the targets that are present
+pub record State (K : Classes) (n : ℕ) (marks memory alive present : List ℕ) (left : ℕ) : Type 0 where
   pub counted : Counted n marks left
-  pub remembers : (present : List ℕ) → ((k : ℕ) → Marked present k → (c : ℕ) × Marked marks c × (classOf (K .target) c ≡ k))
-      → Remembers (K .rows) present memory
+  pub sources : Noted (K .source) marks alive n
+  pub targets : Noted (K .target) marks present n
+  pub remembers : Remembers (K .rows) present memory
 
 -- a sweep left r marks: where none went, every marked candidate is supported
 pub record Swept (K : Classes) (marks after : List ℕ) (left r : ℕ) : Type 0 where

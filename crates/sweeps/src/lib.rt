@@ -103,43 +103,64 @@ fn judge_all(
     }
 }
 
-// Unmarks candidate `c` where its source is not alive. The number of marks left.
-fn drop_one(source: &[u16], alive: &[u8], marks: &mut [u8], c: usize, left: usize) -> usize
+// Looks at candidate `c`, if it is marked: notes its target where its source is alive, else unmarks it. The number of marks left.
+fn pass_one(
+    source: &[u16],
+    target: &[u16],
+    alive: &[u8],
+    present: &mut [u8],
+    marks: &mut [u8],
+    c: usize,
+    left: usize,
+) -> usize
     requires { ⌜ (c < length (now marks)) × (left ≡ rank (marked? (now marks)) (length (now marks))) ⌝ }
-    requires { ⌜ Into (now source) (length (now marks)) (length (now alive)) ⌝ }
+    requires { ⌜ Into (now source) (length (now marks)) (length (now alive)) × Into (now target) (length (now marks)) (length (now present)) ⌝ }
+    requires { ⌜ Noted (now target) (now marks) (now present) c ⌝ }
     ensures { λ r. ⌜ r ≡ rank (marked? (now (marks .exit))) (length (now (marks .entry))) ⌝ }
     ensures { λ r. ⌜ Dropped (now (source .entry)) (now (alive .entry)) c (c + 1) (now (marks .entry)) (now (marks .exit)) left r ⌝ }
+    ensures { λ r. ⌜ Noted (now (target .entry)) (now (marks .exit)) (now (present .exit)) (c + 1) ⌝ }
 {
     if marks[c] != 1 {
         return left;
     }
-    let k = source[c] as usize;
-    if alive[k] == 1 {
-        return left;
+    let a = source[c] as usize;
+    if alive[a] != 1 {
+        marks[c] = 0;
+        return left - 1;
     }
-    marks[c] = 0;
-    left - 1
+    let k = target[c] as usize;
+    present[k] = 1;
+    left
 }
 
-// The same for every candidate.
-fn drop_all(source: &[u16], alive: &[u8], marks: &mut [u8], left: usize) -> usize
+// The same for every candidate: the targets of those that stay marked are noted, and no others.
+fn pass_all(
+    source: &[u16],
+    target: &[u16],
+    alive: &[u8],
+    present: &mut [u8],
+    marks: &mut [u8],
+    left: usize,
+) -> usize
     requires { ⌜ left ≡ rank (marked? (now marks)) (length (now marks)) ⌝ }
-    requires { ⌜ Into (now source) (length (now marks)) (length (now alive)) ⌝ }
+    requires { ⌜ Into (now source) (length (now marks)) (length (now alive)) × Into (now target) (length (now marks)) (length (now present)) ⌝ }
     ensures { λ r. ⌜ r ≡ rank (marked? (now (marks .exit))) (length (now (marks .entry))) ⌝ }
     ensures { λ r. ⌜ Dropped (now (source .entry)) (now (alive .entry)) 0 (length (now (marks .entry))) (now (marks .entry)) (now (marks .exit)) left r ⌝ }
+    ensures { λ r. ⌜ Noted (now (target .entry)) (now (marks .exit)) (now (present .exit)) (length (now (marks .entry))) ⌝ }
 {
+    clear(present);
     let count = marks.len();
     let mut rest = left;
     let mut c = 0;
     while c < count {
-        rest = drop_one(source, alive, marks, c, rest);
+        rest = pass_one(source, target, alive, present, marks, c, rest);
         c += 1;
     }
     rest
 }
 
-// One sweep: which targets are present and which sources alive is worked out from the marks, and the candidates of the sources that are not
-// supported are unmarked. A target that loses its last candidate on the way counts as present until the next sweep.
+// One sweep: the sources that are not supported by the targets present are no longer alive, and one pass over the candidates unmarks theirs and
+// notes the targets of the others. A source that stays alive keeps its candidates, so the sources alive are again those of the marked candidates.
 fn sweep(
     logic: Logic,
     slots: &[u8],
@@ -158,21 +179,20 @@ fn sweep(
     requires { ⌜ Ready (tables logic sources targets (now slots) (now own) (now child)) ⌝ }
     requires { ⌜ (16 * sources ≤ length (now memory)) × (sources ≤ 16384) × (targets ≤ 16384) × (length (now alive) ≡ sources) × (length (now present) ≡ targets) ⌝ }
     requires { ⌜ Into (now source) (length (now marks)) sources × Into (now target) (length (now marks)) targets ⌝ }
-    requires { ⌜ State (classes (tables logic sources targets (now slots) (now own) (now child)) (now source) (now target)) (length (now marks)) (now marks) (now memory) left ⌝ }
+    requires { ⌜ State (classes (tables logic sources targets (now slots) (now own) (now child)) (now source) (now target))
+        (length (now marks)) (now marks) (now memory) (now alive) (now present) left ⌝ }
     ensures { λ r. ⌜ State (classes (tables logic sources targets (now (slots .entry)) (now (own .entry)) (now (child .entry))) (now (source .entry)) (now (target .entry)))
-        (length (now (marks .entry))) (now (marks .exit)) (now (memory .exit)) r ⌝ }
+        (length (now (marks .entry))) (now (marks .exit)) (now (memory .exit)) (now (alive .exit)) (now (present .exit)) r ⌝ }
     ensures { λ r. ⌜ Swept (classes (tables logic sources targets (now (slots .entry)) (now (own .entry)) (now (child .entry))) (now (source .entry)) (now (target .entry)))
         (now (marks .entry)) (now (marks .exit)) left r ⌝ }
 {
-    note_all(target, marks, present);
-    note_all(source, marks, alive);
     judge_all(logic, slots, own, child, present, memory, alive, sources);
-    drop_all(source, alive, marks, left)
+    pass_all(source, target, alive, present, marks, left)
 }
 
 // ---- until no mark goes
 
-// The same as `settle`, with room that is lent: nothing is remembered at first.
+// The same as `settle`, with room that is lent: nothing is remembered at first, and what is present and alive is worked out before the first sweep.
 fn settle_in(
     logic: Logic,
     slots: &[u8],
@@ -191,10 +211,13 @@ fn settle_in(
     requires { ⌜ Ready (tables logic sources targets (now slots) (now own) (now child)) ⌝ }
     requires { ⌜ (16 * sources ≤ length (now memory)) × (sources ≤ 16384) × (targets ≤ 16384) × (length (now alive) ≡ sources) × (length (now present) ≡ targets) ⌝ }
     requires { ⌜ Into (now source) (length (now marks)) sources × Into (now target) (length (now marks)) targets ⌝ }
-    requires { ⌜ State (classes (tables logic sources targets (now slots) (now own) (now child)) (now source) (now target)) (length (now marks)) (now marks) (now memory) left ⌝ }
+    requires { ⌜ Counted (length (now marks)) (now marks) left ⌝ }
+    requires { ⌜ ((i : ℕ) → getD (now memory) i 0 ≡ 0) ⌝ }
     ensures { λ r. ⌜ Settled (classes (tables logic sources targets (now (slots .entry)) (now (own .entry)) (now (child .entry))) (now (source .entry)) (now (target .entry)))
         (length (now (marks .entry))) (now (marks .entry)) (now (marks .exit)) r ⌝ }
 {
+    note_all(target, marks, present);
+    note_all(source, marks, alive);
     let mut rest = left;
     loop {
         let next = sweep(

@@ -3,13 +3,10 @@
 use mathlib.Core.Path.{sym}
 use Prim.Native.Nat.{_*_, _≤_}
 use native.Mathlib.Nat.{le-trans, mul-le-mul-left}
-use lib.ListN.{length, replicate}
+use lib.ListN.{replicate}
 use lib.Seq.{length-take-le}
 use borrow.Author.Needs.{needs}
 use Rattle.chain.proofs.Lists.{zeros-long, zeros-at}
-use Rattle.witnesses.specs.Tables.{tables}
-use Rattle.sweeps.specs.Sweeps.{classes}
-use Rattle.sweeps.proofs.Sweeps.{state-none}
 use Rattle.sweeps.proofs.settle.Statement.{statement}
 use Rattle.sweeps.proofs.settle.Tie as tie
 
@@ -37,7 +34,6 @@ settle-in-requires c κs =
     let s = c .before .before .before .before .before .before .before .before .before .before in
     let a = s .args in
     let p = s .pre .1 .0 in
-    let K = classes (tables (a .logic) (a .sources) (a .targets) (a .slots .now) (a .own .now) (a .child .now)) (a .source .now) (a .target .now) in
     let room : 16 * a .sources ≤ 262144 = mul-le-mul-left 16 (p .0) in (
       s .pre .0,
       (
@@ -48,10 +44,7 @@ settle-in-requires c κs =
           length-take-le (a .sources) (replicate 16384 0) (le-trans (p .0) (zeros-long 16384)),
           length-take-le (a .targets) (replicate 16384 0) (le-trans (p .1) (zeros-long 16384)),
         ),
-        (
-          s .pre .1 .1 .0,
-          state-none K (length (a .marks .now)) (a .marks .now) (replicate 262144 0) (a .left) (s .pre .0 .few) (s .pre .1 .1 .1) (λ i _. zeros-at 262144 i),
-        ),
+        (s .pre .1 .1 .0, (s .pre .1 .1 .1, zeros-at 262144)),
       ),
     )
 
