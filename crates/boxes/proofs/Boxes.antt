@@ -3,7 +3,7 @@
 use mathlib.Core.Path.{_≡_, refl, sym, ap, subst, _∙_}
 use mathlib.Core.Logic.{_↔_, dite}
 use mathlib.Core.List.{List}
-use Prim.Native.Nat.{ℕ, _+_, _-_, _*_, _≤_, _<_}
+use Prim.Native.Nat.{ℕ, _+_, _-_, _*_, _/_, _≤_, _<_}
 use native.Mathlib.Decide.{decLt}
 use native.Mathlib.Omega.{arith}
 use lib.ListN.{length, getD, take, drop, set, length-set, length-drop}
@@ -24,6 +24,11 @@ module _ (lg : Logic) (m t x : ℕ) (in-t : t < m) (P : List ℕ → Type 0) whe
   asks-from f = record { column-lt = in-t; exact = λ v on. (λ w. f v on .0 (w .0), λ p. (f v on .1 p, on t in-t)) }
 
 -- ---- lists of bounds
+
+-- one bound more, by the bytes passed
+pub within-more : (s v : List ℕ) (at : ℕ) → ((z : ℕ) → z < at / 3 → Within (boundAt s z) v) → Within (boundAt s (at / 3)) v
+    → (z : ℕ) → z < (at + 3) / 3 → Within (boundAt s z) v
+within-more s v at f g z h = below-more (λ x. Within (boundAt s x) v) (at / 3) f g z (omega arith)
 
 -- lists with the same first bytes have the same bounds there
 same-bound : (s t : List ℕ) (r : ℕ) → ((z : ℕ) → z < 3 * r → getD t z 0 ≡ getD s z 0) → (x : ℕ) → x < r → boundAt t x ≡ boundAt s x

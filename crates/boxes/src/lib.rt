@@ -35,17 +35,16 @@ pub fn inside(bounds: &[u8], row: &[u8]) -> bool
     requires { ⌜ ((x : ℕ) → x < boundCount (now bounds) → boundAt (now bounds) x .column < length (now row)) ⌝ }
     ensures { λ r. ⌜ Tells r (Inside (now (bounds .entry)) (now (row .entry))) ⌝ }
 {
-    let count = bounds.len() / 3;
-    let mut x = 0;
-    while x < count {
-        let grade = row[wide(bounds[3 * x])];
-        if grade < bounds[3 * x + 1] {
+    let mut at = 0;
+    while 2 < bounds.len() - at {
+        let grade = row[wide(bounds[at])];
+        if grade < bounds[at + 1] {
             return false;
         }
-        if bounds[3 * x + 2] < grade {
+        if bounds[at + 2] < grade {
             return false;
         }
-        x += 1;
+        at += 3;
     }
     true
 }
