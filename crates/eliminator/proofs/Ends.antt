@@ -15,6 +15,7 @@ use Rattle.semantics.proofs.Candidates.{gradeIn-le}
 use Rattle.gradings.specs.Gradings.{grading}
 use Rattle.gradings.specs.declared.Logic.{Logic}
 use Rattle.gradings.proofs.Gradings.{grading-well-formed}
+use Rattle.zones.specs.Zones.{Zoned, Wider}
 use Rattle.slots.specs.Slots.{slotCount, slotQuantifier, slotRole, slotChild, slotTerm, SlotsOf}
 use Rattle.slots.proofs.Slots.{slot-child}
 use Rattle.elimination.specs.Survivors.{Sound, survivors, Survives, Covers}
@@ -24,6 +25,7 @@ use Rattle.elimination.proofs.Marks.{marked-lt, marks-of, marks-number}
 use Rattle.witnesses.specs.Tables.{cell, tables, Ready, RowOf}
 use Rattle.witnesses.proofs.Tables.{witness-witnesses, witnesses-witness}
 use Rattle.partition.specs.Rows.{Classified}
+use Rattle.partition.proofs.Rows.{classified-kept}
 use Rattle.sweeps.specs.Sweeps.{Classes, classes, Into, Closed, Counted, Settled}
 use Rattle.eliminator.specs.declared.Tally.{Tally}
 use Rattle.eliminator.specs.Filling.{Entered}
@@ -34,6 +36,18 @@ rows-are : (P : ℕ → Type 0) (f : ℕ → ℕ → ℕ) (m : ℕ) (rows class 
 rows-are P f m rows class b count C each a q h l =
     let u = C .each a h in
     subst (λ (z : ℕ). P (cell rows z q)) (u .2) (subst P (sym (C .are (u .0) (u .1) q l)) (each (u .0) q (u .1) l))
+
+-- what is entered does not depend on the zones
+pub entered-zoned : (G : Grading) (rs : List Rule) (slots own child child' source target marks : List ℕ) (b : ℕ) (t : Tally) → slotCount slots ≤ 16 → t .targets ≤ 16384
+    → Wider child child' → Entered G rs slots own child source target marks b t → Entered G rs slots own child' source target marks b t
+entered-zoned G rs slots own child child' source target marks b t few n w E = record {
+  sources = E .sources;
+  targets = classified-kept _ (slotCount slots) child child' target b (t .targets) few (λ i h. w .kept i (omega arith)) (E .targets);
+  bits = E .bits;
+  marked = E .marked;
+  counted = E .counted;
+  at-most = E .at-most;
+}
 
 module _ (lg : Logic) {ts : List Term} {rs : List Rule} {count : ℕ} {slots own child source target marks : List ℕ} {t : Tally} (o : Ordered ts) (S : SlotsOf ts slots)
     (E : Entered (grading lg ts) rs slots own child source target marks count t) where
@@ -48,12 +62,15 @@ module _ (lg : Logic) {ts : List Term} {rs : List Rule} {count : ℕ} {slots own
 
   -- ---- the start
 
-  pub ready-of : lg .steps ≤ 16 → slotCount slots ≤ 16 → 16 * t .sources ≤ length own → 16 * t .targets ≤ length child → Ready (K .rows)
-  ready-of low few ho hc = record {
+  pub ready-of : lg .steps ≤ 16 → slotCount slots ≤ 16 → 16 * t .sources ≤ length own → 16 * t .targets ≤ length child → 270336 ≤ length child
+      → Zoned child (slotCount slots) (t .targets) → Ready (K .rows)
+  ready-of low few ho hc hz zoned = record {
     low-steps = low;
     few = few;
     own-room = ho;
     child-room = hc;
+    zone-room = hz;
+    zoned = zoned;
     kinds = S .kinds;
     own-le = rows-are (λ x. x ≤ lg .steps) _ (slotCount slots) own source count (t .sources) (E .sources)
         (λ c q _ l. gradeIn-le G w c (slotTerm slots q) (S .terms q l));

@@ -30,9 +30,9 @@ pub record Entered (G : Grading) (rs : List Rule) (slots own child source target
   pub counted : t .left ≡ rank (marked? marks) b
   pub at-most : t .left ≤ b
 
--- the tables have room for 16384 candidates
+-- the tables have room for 16384 candidates, and that of the targets for their zones
 abbrev pub Roomy : (own child source target : List ℕ) → Type 0
-Roomy own child source target = (262144 ≤ length own) × (262144 ≤ length child) × (16384 ≤ length source) × (16384 ≤ length target)
+Roomy own child source target = (262144 ≤ length own) × (270336 ≤ length child) × (16384 ≤ length source) × (16384 ≤ length target)
 
 -- the index of the sources and that of the targets name no others
 abbrev pub Indexed : (first second : List ℕ) (t : Tally) → Type 0

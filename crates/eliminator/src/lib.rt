@@ -18,6 +18,7 @@ use gradings::base;
 use partition::enroll;
 use slots::put_slot_row;
 use sweeps::settle;
+use zones::make_zones;
 
 // ---- entering the candidates
 
@@ -236,6 +237,7 @@ fn mark_on_tables(
         target,
         marks,
     );
+    make_zones(child, slots.len() / 4, t.targets);
     settle(
         logic,
         slots,
@@ -250,13 +252,13 @@ fn mark_on_tables(
     )
 }
 
-// The same, with tables of its own: 16 bytes for each of 16384 sources and targets.
+// The same, with tables of its own: 16 bytes for each of 16384 sources and targets, and 32 for each of 256 zones.
 fn mark_survivors(logic: Logic, terms: &[u8], slots: &[u8], rules: &[u8], marks: &mut [u8]) -> usize
     requires { ⌜ Task logic (now terms) (now slots) (now rules) (length (now marks)) ⌝ }
     ensures { λ r. ⌜ Eliminated logic (now (terms .entry)) (now (rules .entry)) (length (now (marks .entry))) r (now (marks .exit)) ⌝ }
 {
     let mut own = [0u8; 262144];
-    let mut child = [0u8; 262144];
+    let mut child = [0u8; 270336];
     let mut source = [0u16; 16384];
     let mut target = [0u16; 16384];
     mark_on_tables(

@@ -83,3 +83,13 @@ classified-more f m rows rows' class class' row b count r low g C E = record {
       (λ p. (b, omega arith, E .new k (omega arith) l));
   few = omega (arith, C .few, E .at-most);
 }
+
+-- a table with the same rows
+pub classified-kept : (f : ℕ → ℕ → ℕ) (m : ℕ) (rows rows' class : List ℕ) (b count : ℕ) → m ≤ 16 → KeptRows count rows rows' → Classified f m rows class b count
+    → Classified f m rows' class b count
+classified-kept f m rows rows' class b count low kept C = record {
+  known = C .known;
+  are = λ c h q l. let k = C .known c h in kept (16 * getD class c 0 + q) (omega arith) ∙ C .are c h q l;
+  each = C .each;
+  few = C .few;
+}

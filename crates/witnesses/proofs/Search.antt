@@ -3,12 +3,12 @@
 use mathlib.Core.Path.{_≡_, refl, sym, ap, subst, _∙_}
 use mathlib.Core.Logic.{dite, _↔_}
 use mathlib.Core.List.{List, []}
-use Prim.Native.Nat.{ℕ, _+_, _-_, _*_, _≤_, _<_}
+use Prim.Native.Nat.{ℕ, _+_, _-_, _*_, _/_, _≤_, _<_}
 use native.Mathlib.Decide.{ℕ-discrete, decLt}
 use native.Mathlib.Nat.{le-refl, le-trans}
 use native.Mathlib.Omega.{arith}
-use lib.ListN.{length, getD, drop, set, length-set, length-drop}
-use lib.Seq.{getD-take, getD-drop, getD-set-same, getD-set-other, length-take-le}
+use lib.ListN.{length, getD, set, length-set}
+use lib.Seq.{getD-set-same, getD-set-other}
 use borrow.Author.Count.{below-more}
 use Rattle.chain.specs.Connectives.{Within, Bounds}
 use Rattle.chain.proofs.Connectives.{within-trans, through-mono}
@@ -19,11 +19,13 @@ use Rattle.gradings.specs.declared.Logic.{Logic}
 use Rattle.gradings.proofs.Gradings.{logic-lawful}
 use Rattle.boxes.specs.Boxes.{OnChain, Asks, BoxOf, Narrowed}
 use Rattle.boxes.proofs.Boxes.{asks-to, asks-from, narrowed-kept, narrowed-last, box-part}
+use Rattle.zones.specs.Zones.{rowIn, zoneIn, Lies}
+use Rattle.zones.proofs.Zones.{row-at}
 use Rattle.slots.specs.Slots.{slotCount, slotKind, slotRole, slotQuantifier}
 use Rattle.elimination.specs.Marks.{Marked}
 use Rattle.elimination.proofs.Marks.{marked-lt}
 use Rattle.witnesses.specs.Tables.{cell, Tables, Ready}
-use Rattle.witnesses.specs.Search.{AllowsAt, WantsAt, AllowsRow, BoxFor, Boxes, Witness, rowIn, boxOf, Legible, InBox, NextHit, NextWitness, Remembered, Remembers, Backed}
+use Rattle.witnesses.specs.Search.{AllowsAt, WantsAt, AllowsRow, BoxFor, Boxes, Witness, boxOf, Legible, InBox, Unreached, Leapt, NextHit, NextWitness, Remembered, Remembers, Backed}
 
 -- ---- the boxes of slot q of source c
 
@@ -107,12 +109,16 @@ module _ (lg : Logic) (slots own : List ℕ) (c q : ℕ) where
 
 -- ---- the search
 
--- row d of a table, and its entry j
-pub row-long : (table : List ℕ) (d : ℕ) → 16 * d + 16 ≤ length table → length (rowIn table d) ≡ 16
-row-long table d h = length-take-le 16 (drop (16 * d) table) (omega (arith, length-drop (16 * d) table))
+-- boxes that bound columns below m
+pub legible-more : (N m n : ℕ) (wanted spans bounds : List ℕ) → m ≤ n → Legible N wanted spans bounds m → Legible N wanted spans bounds n
+legible-more N m n wanted spans bounds h f x l w = let u = f x l w in (u .0, u .1, λ i g. omega (arith, u .2 i g))
 
-pub row-at : (table : List ℕ) (d j : ℕ) → j < 16 → getD (rowIn table d) j 0 ≡ cell table d j
-row-at table d j h = getD-take 16 (drop (16 * d) table) j 0 h ∙ getD-drop (16 * d) table j 0
+-- no grade reaches into the zone of a block: no row of the block lies in its box
+pub block-leapt : (N : ℕ) (wanted spans bounds : List ℕ) (q : ℕ) (child : List ℕ) (d : ℕ) → 64 * (d / 64) ≡ d
+    → ((x : ℕ) → x ≤ N → Unreached N wanted spans bounds q (zoneIn child (d / 64)) x) → Leapt N wanted spans bounds q child d 64
+block-leapt N wanted spans bounds q child d g f m n legible hq zoned e l h k le =
+    let b : e / 64 ≡ d / 64 = omega arith in
+    f (getD (rowIn child e) q 0) le m legible hq (rowIn child e) (subst (λ (z : ℕ). Lies (zoneIn child z) m (rowIn child e)) b (zoned e k)) refl
 
 -- the rows in their boxes are the witnesses', and so the next hit is the next witness
 module _ (T : Tables) (R : Ready T) (c q : ℕ) (hq : q < slotCount (T .slots)) (wanted spans bounds : List ℕ) (k : ℕ)
@@ -127,10 +133,8 @@ module _ (T : Tables) (R : Ready T) (c q : ℕ) (hq : q < slotCount (T .slots)) 
   box-at : (x : ℕ) → x ≤ N → getD wanted x 0 ≤ N → BoxOf (T .logic) m (AllowsRow (T .logic) (T .slots) (T .own) c q (getD wanted x 0)) (boxOf N wanted spans bounds x)
   box-at x h l = let u = b x (omega arith) in box-part (T .logic) m _ bounds _ bounds _ (u .box l) (omega (arith, u .few l))
 
-  pub boxes-legible : Legible N wanted spans bounds 16
-  boxes-legible x h l =
-      let u = b x (omega arith) in
-      (u .box l .more, omega (arith, u .few l), λ i g. omega (arith, box-at x h l .columns i g, R .few))
+  pub boxes-legible : Legible N wanted spans bounds m
+  boxes-legible x h l = let u = b x (omega arith) in (u .box l .more, omega (arith, u .few l), box-at x h l .columns)
 
   at : (d j : ℕ) → j < m → getD (rowIn (T .child) d) j 0 ≡ cell (T .child) d j
   at d j l = row-at (T .child) d j (omega (arith, R .few))

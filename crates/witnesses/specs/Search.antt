@@ -1,13 +1,15 @@
 -- The search for witnesses by the tables: when a target is a witness of a source, the boxes of grades in which the children of a witness lie, the
 -- next marked target in its box, and what is remembered of earlier searches.
 -- Assumes nothing.
+use mathlib.Core.Path.{_≡_}
 use mathlib.Core.List.{List, []}
 use Prim.Native.Nat.{ℕ, _+_, _-_, _*_, _≤_, _<_}
-use lib.ListN.{length, getD, take, drop}
+use lib.ListN.{length, getD}
 use Rattle.chain.specs.Connectives.{Reaches, Wants}
 use Rattle.gradings.specs.Gradings.{connectivesOf, grading}
 use Rattle.gradings.specs.declared.Logic.{Logic}
 use Rattle.boxes.specs.Boxes.{boundCount, boundAt, Inside, part, Narrowed}
+use Rattle.zones.specs.Zones.{rowIn, Lies, Zoned}
 use Rattle.slots.specs.Slots.{slotCount, slotRole, slotQuantifier, SlotAllows}
 use Rattle.elimination.specs.Marks.{Marked}
 use Rattle.witnesses.specs.Tables.{cell, Tables}
@@ -33,10 +35,6 @@ Witness T c q d =
     × ((j : ℕ) → j < slotCount (T .slots) → AllowsAt (T .logic) (T .slots) (T .own) c q s j (cell (T .child) d j))
 
 -- ---- the boxes: for each grade of the slot's own child the bounds on the rows of witnesses
-
--- row d of a table
-abbrev pub rowIn : (table : List ℕ) (d : ℕ) → List ℕ
-rowIn table d = take 16 (drop (16 * d) table)
 
 module _ (l : Logic) (slots own : List ℕ) (c q : ℕ) where
   -- every slot allows a link of level v to a target with this row
@@ -71,7 +69,16 @@ module _ (N : ℕ) (wanted spans bounds : List ℕ) where
   abbrev pub InBox : (q : ℕ) (row : List ℕ) → Type 0
   InBox q row = (getD wanted (getD row q 0) 0 ≤ N) × Inside (boxOf (getD row q 0)) row
 
+  -- no row of the zone that has grade x at slot q lies in its box
+  abbrev pub Unreached : (q : ℕ) (zone : List ℕ) (x : ℕ) → Type 0
+  Unreached q zone x = (m : ℕ) → Legible m → q < m → (row : List ℕ) → Lies zone m row → getD row q 0 ≡ x → ¬ InBox q row
+
   module _ (q : ℕ) (child : List ℕ) where
+    -- none of the r rows from d on lies in its box, as far as there are rows with zones
+    abbrev pub Leapt : (d r : ℕ) → Type 0
+    Leapt d r =
+        (m n : ℕ) → Legible m → q < m → Zoned child m n → (e : ℕ) → d ≤ e → e < d + r → e < n → getD (rowIn child e) q 0 ≤ N → ¬ InBox q (rowIn child e)
+
     -- d is marked, and row d of the children's grades lies in its box
     abbrev pub Hit : (marks : List ℕ) → ℕ → Type 0
     Hit marks d = Marked marks d × InBox q (rowIn child d)

@@ -9,6 +9,7 @@ use Rattle.semantics.specs.Terms.{Term}
 use Rattle.semantics.specs.Candidates.{gradeIn}
 use Rattle.gradings.specs.Gradings.{grading}
 use Rattle.gradings.specs.declared.Logic.{Logic}
+use Rattle.zones.specs.Zones.{Zoned}
 use Rattle.slots.specs.Slots.{slotCount, slotKind}
 
 -- ---- tables of grades, in rows of 16 bytes
@@ -35,9 +36,12 @@ pub record Ready (T : Tables) : Type 0 where
   pub few : slotCount (T .slots) ≤ 16
   pub own-room : 16 * T .sources ≤ length (T .own)
   pub child-room : 16 * T .targets ≤ length (T .child)
+  pub zone-room : 270336 ≤ length (T .child)
   pub kinds : (q : ℕ) → q < slotCount (T .slots) → (4 ≤ slotKind (T .slots) q) × (slotKind (T .slots) q ≤ 5)
   pub own-le : (a q : ℕ) → a < T .sources → q < slotCount (T .slots) → cell (T .own) a q ≤ T .logic .steps
   pub child-le : (b q : ℕ) → b < T .targets → q < slotCount (T .slots) → cell (T .child) b q ≤ T .logic .steps
+  -- behind the targets' rows stand their zones
+  pub zoned : Zoned (T .child) (slotCount (T .slots)) (T .targets)
 
 -- row a of the table has what candidate c gives the term that each slot has `at`
 abbrev pub RowOf : Logic → List Term → (slots : List ℕ) (at : List ℕ → ℕ → ℕ) (table : List ℕ) (a c : ℕ) → Type 0

@@ -1,13 +1,15 @@
 // The search for witnesses by tables of grades: of a source, a row of the slots' own grades, among the marked targets, rows of their children's.
 ghost use mathlib.Core.Path.{_≡_};
+ghost use mathlib.Core.Bool.{true, false};
 ghost use Prim.Native.Nat.{ℕ, _+_, _*_, _-_, _<_, _≤_};
 ghost use lib.ListN.{length, getD, set};
 ghost use Rattle.chain.specs.Decisions.{Tells};
-ghost use Rattle.boxes.specs.Boxes.{Asks, Narrowed};
+ghost use Rattle.boxes.specs.Boxes.{part, Asks, Narrowed};
+ghost use Rattle.zones.specs.Zones.{rowIn, Zoned};
 ghost use Rattle.slots.specs.Slots.{slotCount, slotKind};
 ghost use Rattle.elimination.specs.Marks.{Marked};
 ghost use Rattle.witnesses.specs.Tables.{cell, tables, Ready};
-ghost use Rattle.witnesses.specs.Search.{AllowsAt, AllowsRow, rowIn, Boxes, Legible, InBox, Hit, NextHit, NextWitness, Remembers, Backed, Supported};
+ghost use Rattle.witnesses.specs.Search.{AllowsAt, AllowsRow, Boxes, Legible, InBox, Unreached, Leapt, Hit, NextHit, NextWitness, Remembers, Backed, Supported};
 use boxes::Bound;
 use boxes::inside;
 use boxes::put_bound;
@@ -16,6 +18,8 @@ use gradings::bound;
 use gradings::governs;
 use gradings::wants;
 use sections::wide;
+use zones::misses;
+use zones::zone_of;
 
 // ---- the boxes of grades in which the children of a witness lie
 
@@ -174,6 +178,17 @@ fn row_of(table: &[u8], d: usize) -> &[u8]
     &table[start..end]
 }
 
+// The box that is noted for grade `x`.
+fn box_of<'a>(spans: &[u16], bounds: &'a [u8], x: usize) -> &'a [u8]
+    requires { ⌜ (x < 17) × (34 ≤ length (now spans)) ⌝ }
+    requires { ⌜ (getD (now spans) (2 * x) 0 ≤ getD (now spans) (2 * x + 1) 0) × (3 * getD (now spans) (2 * x + 1) 0 ≤ length (now bounds)) ⌝ }
+    ensures { λ r. ⌜ now r ≡ part (now (bounds .entry)) (getD (now (spans .entry)) (2 * x) 0) (getD (now (spans .entry)) (2 * x + 1) 0) ⌝ }
+{
+    let start = 3 * (spans[2 * x] as usize);
+    let end = 3 * (spans[2 * x + 1] as usize);
+    &bounds[start..end]
+}
+
 // Does a row lie in the box for its grade at slot `q`? That grade is looked at first: most rows fail there.
 fn in_box(logic: Logic, wanted: &[u8], spans: &[u16], bounds: &[u8], q: usize, row: &[u8]) -> bool
     requires { ⌜ (logic .steps ≤ 16) × (17 ≤ length (now wanted)) × (34 ≤ length (now spans)) × (q < 16) × (length (now row) ≡ 16) × (getD (now row) q 0 ≤ logic .steps) ⌝ }
@@ -184,9 +199,7 @@ fn in_box(logic: Logic, wanted: &[u8], spans: &[u16], bounds: &[u8], q: usize, r
     if logic.steps < wanted[x] {
         return false;
     }
-    let start = 3 * (spans[2 * x] as usize);
-    let end = 3 * (spans[2 * x + 1] as usize);
-    inside(&bounds[start..end], row)
+    inside(box_of(spans, bounds, x), row)
 }
 
 // Is `d` marked, with its row in its box? The mark is looked at last: few rows come so far.
@@ -211,6 +224,80 @@ fn hit(
     marks[d] == 1
 }
 
+// May a row of the zone with grade `x` at slot `q` lie in its box?
+fn reached(
+    logic: Logic,
+    wanted: &[u8],
+    spans: &[u16],
+    bounds: &[u8],
+    q: usize,
+    zone: &[u8],
+    x: usize,
+) -> bool
+    requires { ⌜ (logic .steps ≤ 16) × (17 ≤ length (now wanted)) × (34 ≤ length (now spans)) × (q < 16) × (length (now zone) ≡ 32) × (x ≤ logic .steps) ⌝ }
+    requires { ⌜ Legible (logic .steps) (now wanted) (now spans) (now bounds) 16 ⌝ }
+    ensures { λ r. ⌜ (r ≡ false → Unreached (logic .steps) (now (wanted .entry)) (now (spans .entry)) (now (bounds .entry)) q (now (zone .entry)) x) ⌝ }
+{
+    if x + wide(zone[q]) < 255 {
+        return false;
+    }
+    if wide(zone[16 + q]) < x {
+        return false;
+    }
+    if logic.steps < wanted[x] {
+        return false;
+    }
+    !misses(box_of(spans, bounds, x), zone)
+}
+
+// Does no row of the zone lie in its box?
+fn hopeless(
+    logic: Logic,
+    wanted: &[u8],
+    spans: &[u16],
+    bounds: &[u8],
+    q: usize,
+    zone: &[u8],
+) -> bool
+    requires { ⌜ (logic .steps ≤ 16) × (17 ≤ length (now wanted)) × (34 ≤ length (now spans)) × (q < 16) × (length (now zone) ≡ 32) ⌝ }
+    requires { ⌜ Legible (logic .steps) (now wanted) (now spans) (now bounds) 16 ⌝ }
+    ensures { λ r. ⌜ (r ≡ true → (x : ℕ) → x ≤ logic .steps
+        → Unreached (logic .steps) (now (wanted .entry)) (now (spans .entry)) (now (bounds .entry)) q (now (zone .entry)) x) ⌝ }
+{
+    let steps = logic.steps as usize;
+    let mut x = 0;
+    while x <= steps {
+        if reached(logic, wanted, spans, bounds, q, zone, x) {
+            return false;
+        }
+        x += 1;
+    }
+    true
+}
+
+// A number of targets from `d` on of which no row lies in its box: those of a block, where `d` is its first and its zone tells, or 0.
+fn leap(
+    logic: Logic,
+    wanted: &[u8],
+    spans: &[u16],
+    bounds: &[u8],
+    q: usize,
+    child: &[u8],
+    d: usize,
+) -> usize
+    requires { ⌜ (logic .steps ≤ 16) × (17 ≤ length (now wanted)) × (34 ≤ length (now spans)) × (q < 16) × (d < 16384) × (270336 ≤ length (now child)) ⌝ }
+    requires { ⌜ Legible (logic .steps) (now wanted) (now spans) (now bounds) 16 ⌝ }
+    ensures { λ r. ⌜ Leapt (logic .steps) (now (wanted .entry)) (now (spans .entry)) (now (bounds .entry)) q (now (child .entry)) d r × (r ≤ 64) ⌝ }
+{
+    if d % 64 != 0 {
+        return 0;
+    }
+    if hopeless(logic, wanted, spans, bounds, q, zone_of(child, d / 64)) {
+        return 64;
+    }
+    0
+}
+
 // The first such target from `start` on, or a number past the last.
 fn next_hit(
     logic: Logic,
@@ -222,14 +309,19 @@ fn next_hit(
     marks: &[u8],
     start: usize,
 ) -> usize
-    requires { ⌜ (logic .steps ≤ 16) × (17 ≤ length (now wanted)) × (34 ≤ length (now spans)) × (q < 16) ⌝ }
-    requires { ⌜ (length (now marks) ≤ 16384) × (16 * length (now marks) ≤ length (now child)) ⌝ }
+    requires { ⌜ (logic .steps ≤ 16) × (17 ≤ length (now wanted)) × (34 ≤ length (now spans)) × (length (now marks) ≤ 16384) × (16 * length (now marks) ≤ length (now child))
+        × (270336 ≤ length (now child)) ⌝ }
     requires { ⌜ ((d : ℕ) → d < length (now marks) → cell (now child) d q ≤ logic .steps) ⌝ }
-    requires { ⌜ Legible (logic .steps) (now wanted) (now spans) (now bounds) 16 ⌝ }
+    requires { ⌜ ((m : ℕ) × (m ≤ 16) × (q < m) × Legible (logic .steps) (now wanted) (now spans) (now bounds) m × Zoned (now child) m (length (now marks))) ⌝ }
     ensures { λ r. ⌜ NextHit (logic .steps) (now (wanted .entry)) (now (spans .entry)) (now (bounds .entry)) q (now (child .entry)) (now (marks .entry)) start r ⌝ }
 {
     let mut d = start;
     while d < marks.len() {
+        let gap = leap(logic, wanted, spans, bounds, q, child, d);
+        if 0 < gap {
+            d += gap;
+            continue;
+        }
         if hit(logic, wanted, spans, bounds, q, child, marks, d) {
             return d;
         }

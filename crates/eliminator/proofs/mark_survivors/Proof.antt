@@ -20,7 +20,7 @@ slice-aggregate-mark-on-tables-4 c = search needs
 mark-on-tables-requires : tie.Need-mark-on-tables-requires
 mark-on-tables-requires c κs =
     let s = c .before .before .before .before .before .before .before .before .before in
-    (s .pre, (zeros-long 262144, zeros-long 262144, zeros-long 16384, zeros-long 16384))
+    (s .pre, (zeros-long 262144, zeros-long 270336, zeros-long 16384, zeros-long 16384))
 
 same-length : tie.Need-same-length
 same-length c = search needs

@@ -4,7 +4,7 @@ use mathlib.Core.Path.{sym, subst}
 use borrow.Author.Needs.{needs}
 use Rattle.chain.proofs.Decisions.{tells-no, tells-map, tells-eq, told-yes, told-no}
 use Rattle.witnesses.specs.Search.{InBox}
-use Rattle.witnesses.proofs.Search.{row-long, row-at}
+use Rattle.zones.proofs.Zones.{row-long, row-at}
 use Rattle.witnesses.proofs.hit.Statement.{statement}
 use Rattle.witnesses.proofs.hit.Tie as tie
 

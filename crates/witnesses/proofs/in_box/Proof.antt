@@ -1,10 +1,13 @@
 -- `witnesses::in_box` meets its contract.
 -- Assumes nothing.
-use Prim.Native.Nat.{_+_, _*_}
+use mathlib.Core.Path.{sym, subst}
+use mathlib.Core.List.{List}
+use Prim.Native.Nat.{ℕ, _<_}
 use native.Mathlib.Omega.{arith}
-use lib.ListN.{getD}
+use lib.ListN.{length, getD}
 use borrow.Author.Needs.{needs}
-use Rattle.chain.proofs.Decisions.{tells-no, tells-then}
+use Rattle.chain.proofs.Decisions.{tells-no, tells-then, tells-map}
+use Rattle.boxes.specs.Boxes.{boundCount, boundAt, Inside}
 use Rattle.witnesses.proofs.in_box.Statement.{statement}
 use Rattle.witnesses.proofs.in_box.Tie as tie
 
@@ -22,89 +25,33 @@ shared-slice-read-if1 c = search needs
 returns : tie.Need-returns
 returns c = tells-no (λ h. omega (arith, h .0, c .if1 .taken))
 
-mul-start : tie.Need-mul-start
-mul-start c = search needs
-
-mul-start-2 : tie.Need-mul-start-2
-mul-start-2 c = search needs
-
-shared-slice-read-start : tie.Need-shared-slice-read-start
-shared-slice-read-start c = search needs
-
-cast-start : tie.Need-cast-start
-cast-start c =
-    let s = c .before .before .before .before .before .before .before .before .before in
-    omega (arith, c .shared-slice-known7 .given (2 * getD (s .args .row .now) (s .args .q) 0))
-
-mul-start-3 : tie.Need-mul-start-3
-mul-start-3 c =
-    let i = c .before in
+box-of-requires : tie.Need-box-of-requires
+box-of-requires c κs =
+    let i = c in
     let s = i .before .before .before .before .before .before .before .before in
     let x = getD (s .args .row .now) (s .args .q) 0 in
     let p = s .pre .1 x (s .pre .0 .5) (omega (arith, i .if1 .left)) in
-    omega (arith, p)
-
-mul-end : tie.Need-mul-end
-mul-end c = search needs
-
-add-end : tie.Need-add-end
-add-end c = search needs
-
-mul-end-2 : tie.Need-mul-end-2
-mul-end-2 c = search needs
-
-shared-slice-read-end : tie.Need-shared-slice-read-end
-shared-slice-read-end c = search needs
-
-cast-end : tie.Need-cast-end
-cast-end c =
-    let s = c .before .before .before .before .before .before .before .before .before .before in
-    omega (arith, c .shared-slice-known8 .given (2 * getD (s .args .row .now) (s .args .q) 0 + 1))
-
-mul-end-3 : tie.Need-mul-end-3
-mul-end-3 c =
-    let i = c .before .before in
-    let s = i .before .before .before .before .before .before .before .before in
-    let x = getD (s .args .row .now) (s .args .q) 0 in
-    let p = s .pre .1 x (s .pre .0 .5) (omega (arith, i .if1 .left)) in
-    omega (arith, p)
-
-sub-inside : tie.Need-sub-inside
-sub-inside c =
-    let i = c .before .before in
-    let s = i .before .before .before .before .before .before .before .before in
-    let x = getD (s .args .row .now) (s .args .q) 0 in
-    let p = s .pre .1 x (s .pre .0 .5) (omega (arith, i .if1 .left)) in
-    omega (arith, p)
-
-part-inside-start : tie.Need-part-inside-start
-part-inside-start c =
-    let i = c .before .before in
-    let s = i .before .before .before .before .before .before .before .before in
-    let x = getD (s .args .row .now) (s .args .q) 0 in
-    let p = s .pre .1 x (s .pre .0 .5) (omega (arith, i .if1 .left)) in
-    omega (arith, p)
-
-part-inside-end : tie.Need-part-inside-end
-part-inside-end c =
-    let i = c .before .before in
-    let s = i .before .before .before .before .before .before .before .before in
-    let x = getD (s .args .row .now) (s .args .q) 0 in
-    let p = s .pre .1 x (s .pre .0 .5) (omega (arith, i .if1 .left)) in
-    omega (arith, p)
+    let h = s .pre .0 in
+    ((omega (arith, h), h .2), (p .0, p .1))
 
 inside-requires : tie.Need-inside-requires
 inside-requires c κs =
-    let i = c .before .before .before in
+    let b = c in
+    let i = b .before in
     let s = i .before .before .before .before .before .before .before .before in
     let x = getD (s .args .row .now) (s .args .q) 0 in
     let p = s .pre .1 x (s .pre .0 .5) (omega (arith, i .if1 .left)) in
-    λ k h. omega (arith, p .2 k h, s .pre .0 .4)
+    subst (λ (z : List ℕ). (k : ℕ) → k < boundCount z → boundAt z k .column < length (s .args .row .now)) (sym (b .box-of .ensures))
+    (λ k h. omega (arith, p .2 k h, s .pre .0 .4))
 
 returns-2 : tie.Need-returns-2
 returns-2 c =
-    let i = c .before .before .before .before in
-    tells-then _ (omega (arith, i .if1 .left)) (c .inside .ensures)
+    let b = c .before in
+    let i = b .before in
+    let s = i .before .before .before .before .before .before .before .before in
+    let v = s .args .row .now in
+    tells-then _ (omega (arith, i .if1 .left))
+    (tells-map _ (subst (λ (z : List ℕ). Inside z v) (b .box-of .ensures)) (subst (λ (z : List ℕ). Inside z v) (sym (b .box-of .ensures))) (c .inside .ensures))
 
 pub in-box-spec : {M : Type 1} → statement M
 in-box-spec =
@@ -114,19 +61,6 @@ in-box-spec =
     cast-x
     shared-slice-read-if1
     returns
-    mul-start
-    mul-start-2
-    shared-slice-read-start
-    cast-start
-    mul-start-3
-    mul-end
-    add-end
-    mul-end-2
-    shared-slice-read-end
-    cast-end
-    mul-end-3
-    sub-inside
-    part-inside-start
-    part-inside-end
+    box-of-requires
     inside-requires
     returns-2)

@@ -4,6 +4,7 @@ use mathlib.Core.Path.{refl}
 use native.Mathlib.Omega.{arith}
 use lib.ListN.{length}
 use borrow.Author.Needs.{needs}
+use Rattle.slots.specs.Slots.{slotCount}
 use Rattle.witnesses.specs.Tables.{tables}
 use Rattle.witnesses.proofs.Search.{boxes-legible, next-witness}
 use Rattle.witnesses.proofs.next_witness.Statement.{statement}
@@ -48,12 +49,16 @@ next-hit-requires c κs =
     let spans = v .last .1 .1 .1 .1 .1 .1 .0 in
     let bounds = v .last .1 .1 .1 .1 .1 .1 .1 .0 in
     let k = v .kept in (
-      (R .low-steps, omega (arith, k), omega (arith, k), omega (arith, p, R .few)),
+      (R .low-steps, omega (arith, k), omega (arith, k), p .0, R .child-room, R .zone-room),
       (
-        (p .0, R .child-room),
+        λ d h. R .child-le d (a .q) h (p .2),
         (
-          λ d h. R .child-le d (a .q) h (p .2),
-          boxes-legible (tables (a .logic) (a .sources) (length (a .marks .now)) (a .slots .now) (a .own .now) (a .child .now)) R (a .c) (a .q) (p .2) wanted spans bounds (v .result) (v .ensures .0) (omega (arith, k, v .ensures .1)),
+          slotCount (a .slots .now),
+          R .few,
+          p .2,
+          boxes-legible (tables (a .logic) (a .sources) (length (a .marks .now)) (a .slots .now) (a .own .now) (a .child .now)) R (a .c) (a .q) (p .2) wanted spans
+              bounds (v .result) (v .ensures .0) (omega (arith, k, v .ensures .1)),
+          R .zoned,
         ),
       ),
     )
