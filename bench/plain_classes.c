@@ -3,6 +3,8 @@
 #include "plain_elimination.h"
 #include <string.h>
 
+enum { BLOCK = 64 }; // targets that share a zone; 32 and 128 are no better on the whole
+
 // Classes, numbered in the order in which they occur.
 typedef struct {
     int count;
@@ -15,6 +17,14 @@ typedef struct {
 } classes;
 
 static classes sources, targets;
+
+// The lowest and the highest grade of each slot in a block of consecutive targets. Later slots change least from row to row, so that in a block
+// most of them have one grade alone, and a whole block can be passed over at once.
+typedef struct {
+    uint8_t lowest[MOST_QUANTIFIED], highest[MOST_QUANTIFIED];
+} zone;
+
+static zone zones[MOST_CANDIDATES / BLOCK];
 
 // The candidates that are left, ascending.
 static uint16_t left[MOST_CANDIDATES];
@@ -52,6 +62,21 @@ static int fill(const book *k, const slots *s, int count, uint8_t *marks) {
     return n;
 }
 
+static void make_zones(const slots *s) {
+    for (int t = 0; t < targets.count; t++) {
+        zone *z = &zones[t / BLOCK];
+        const uint8_t *row = targets.rows[t];
+        if (t % BLOCK == 0) {
+            memcpy(z->lowest, row, MOST_QUANTIFIED);
+            memcpy(z->highest, row, MOST_QUANTIFIED);
+        }
+        for (int q = 0; q < s->count; q++) {
+            if (row[q] < z->lowest[q]) z->lowest[q] = row[q];
+            if (row[q] > z->highest[q]) z->highest[q] = row[q];
+        }
+    }
+}
+
 // What a box asks of one slot: a grade of low or more, and of no more than `over` above it.
 typedef struct {
     uint8_t slot, low, over;
@@ -77,12 +102,25 @@ static bool inside(const bound *bounds, int n, const uint8_t *row) {
     return true;
 }
 
+// Whether some bound leaves nothing of a zone: then no row of its block lies in the box.
+static bool apart(const bound *bounds, int n, const zone *z) {
+    for (int x = 0; x < n; x++) {
+        bound b = bounds[x];
+        if (z->highest[b.slot] < b.low || b.low + b.over < z->lowest[b.slot]) return true;
+    }
+    return false;
+}
+
 // Looks for a witness of slot q of a source, past the one remembered, and remembers it.
 static bool next_witness(const slots *s, int source, int q) {
     bound bounds[MOST_QUANTIFIED];
     int n = list_bounds(s, sources.rows[source], q, bounds);
     bound first = bounds[0];
     for (int t = memory[source][q]; t < targets.count; t++) {
+        if (t % BLOCK == 0 && apart(bounds, n, &zones[t / BLOCK])) {
+            t += BLOCK - 1;
+            continue;
+        }
         if (within(&first, targets.rows[t]) && inside(bounds, n, targets.rows[t]) && targets.has[t]) {
             memory[source][q] = t + 1;
             return true;
@@ -125,6 +163,7 @@ static int sweep(const slots *s, uint8_t *marks, int n) {
 int eliminate_by_classes(const book *k, int count, uint8_t *marks) {
     slots s = collect_slots(k);
     int n = fill(k, &s, count, marks);
+    make_zones(&s);
     memset(memory, 0, sources.count * sizeof memory[0]);
     for (int before = -1; before != n;) {
         before = n;
