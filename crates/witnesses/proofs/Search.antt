@@ -17,7 +17,7 @@ use Rattle.sections.proofs.Terms.{by-some, by-all}
 use Rattle.gradings.specs.Gradings.{connectivesOf, grading}
 use Rattle.gradings.specs.declared.Logic.{Logic}
 use Rattle.gradings.proofs.Gradings.{logic-lawful}
-use Rattle.boxes.specs.Boxes.{OnChain, Asks, BoxOf, Narrowed}
+use Rattle.boxes.specs.Boxes.{OnChain, Inside, Asks, BoxOf, Narrowed}
 use Rattle.boxes.proofs.Boxes.{asks-to, asks-from, narrowed-kept, narrowed-last, box-part}
 use Rattle.zones.specs.Zones.{rowIn, zoneIn, Lies}
 use Rattle.zones.proofs.Zones.{row-at}
@@ -25,7 +25,7 @@ use Rattle.slots.specs.Slots.{slotCount, slotKind, slotRole, slotQuantifier}
 use Rattle.elimination.specs.Marks.{Marked}
 use Rattle.elimination.proofs.Marks.{marked-lt}
 use Rattle.witnesses.specs.Tables.{cell, Tables, Ready}
-use Rattle.witnesses.specs.Search.{AllowsAt, WantsAt, AllowsRow, BoxFor, Boxes, Witness, boxOf, Legible, InBox, Unreached, Leapt, NextHit, NextWitness, Remembered, Remembers, Backed}
+use Rattle.witnesses.specs.Search.{AllowsAt, WantsAt, AllowsRow, BoxFor, Boxes, Witness, boxOf, Legible, InBox, MissedAt, Unreached, Leapt, NextHit, NextWitness, Remembered, Remembers, Backed}
 
 -- ---- the boxes of slot q of source c
 
@@ -112,6 +112,20 @@ module _ (lg : Logic) (slots own : List ℕ) (c q : ℕ) where
 -- boxes that bound columns below m
 pub legible-more : (N m n : ℕ) (wanted spans bounds : List ℕ) → m ≤ n → Legible N wanted spans bounds m → Legible N wanted spans bounds n
 legible-more N m n wanted spans bounds h f x l w = let u = f x l w in (u .0, u .1, λ i g. omega (arith, u .2 i g))
+
+module _ (N : ℕ) (wanted spans bounds zone : List ℕ) where
+  -- one box for two grades
+  pub missed-shared : (x y : ℕ) → getD wanted y 0 ≤ N → getD spans (2 * x) 0 ≡ getD spans (2 * y) 0 → getD spans (2 * x + 1) 0 ≡ getD spans (2 * y + 1) 0
+      → MissedAt N wanted spans bounds zone y → MissedAt N wanted spans bounds zone x
+  missed-shared x y w a b f _ m legible row lies = rw (a, b) (f w m legible row lies)
+
+  -- a box that is missed is reached by no row of the zone, and a grade that no row has by none
+  pub missed-unreached : (q x : ℕ) → (255 ≤ x + getD zone q 0 → x ≤ getD zone (16 + q) 0 → MissedAt N wanted spans bounds zone x)
+      → Unreached N wanted spans bounds q zone x
+  missed-unreached q x f m legible h row lies at box =
+      let u = lies q h in
+      f (omega (arith, u .0)) (omega (arith, u .1)) (subst (λ (z : ℕ). getD wanted z 0 ≤ N) at (box .0)) m legible row lies
+      (subst (λ (z : ℕ). Inside (boxOf N wanted spans bounds z) row) at (box .1))
 
 -- no grade reaches into the zone of a block: no row of the block lies in its box
 pub block-leapt : (N : ℕ) (wanted spans bounds : List ℕ) (q : ℕ) (child : List ℕ) (d : ℕ) → 64 * (d / 64) ≡ d

@@ -69,6 +69,10 @@ module _ (N : ℕ) (wanted spans bounds : List ℕ) where
   abbrev pub InBox : (q : ℕ) (row : List ℕ) → Type 0
   InBox q row = (getD wanted (getD row q 0) 0 ≤ N) × Inside (boxOf (getD row q 0)) row
 
+  -- no row of the zone lies in the box for the grade x, if there is one
+  abbrev pub MissedAt : (zone : List ℕ) (x : ℕ) → Type 0
+  MissedAt zone x = getD wanted x 0 ≤ N → (m : ℕ) → Legible m → (row : List ℕ) → Lies zone m row → ¬ Inside (boxOf x) row
+
   -- no row of the zone that has grade x at slot q lies in its box
   abbrev pub Unreached : (q : ℕ) (zone : List ℕ) (x : ℕ) → Type 0
   Unreached q zone x = (m : ℕ) → Legible m → q < m → (row : List ℕ) → Lies zone m row → getD row q 0 ≡ x → ¬ InBox q row

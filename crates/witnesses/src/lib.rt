@@ -9,7 +9,7 @@ ghost use Rattle.zones.specs.Zones.{rowIn, Zoned};
 ghost use Rattle.slots.specs.Slots.{slotCount, slotKind};
 ghost use Rattle.elimination.specs.Marks.{Marked};
 ghost use Rattle.witnesses.specs.Tables.{cell, tables, Ready};
-ghost use Rattle.witnesses.specs.Search.{AllowsAt, AllowsRow, Boxes, Legible, InBox, Unreached, Leapt, Hit, NextHit, NextWitness, Remembers, Backed, Supported};
+ghost use Rattle.witnesses.specs.Search.{AllowsAt, AllowsRow, Boxes, Legible, InBox, MissedAt, Unreached, Leapt, Hit, NextHit, NextWitness, Remembers, Backed, Supported};
 use boxes::Bound;
 use boxes::inside;
 use boxes::put_bound;
@@ -224,33 +224,48 @@ fn hit(
     marks[d] == 1
 }
 
-// May a row of the zone with grade `x` at slot `q` lie in its box?
-fn reached(
-    logic: Logic,
-    wanted: &[u8],
-    spans: &[u16],
-    bounds: &[u8],
-    q: usize,
-    zone: &[u8],
-    x: usize,
-) -> bool
-    requires { ⌜ (logic .steps ≤ 16) × (17 ≤ length (now wanted)) × (34 ≤ length (now spans)) × (q < 16) × (length (now zone) ≡ 32) × (x ≤ logic .steps) ⌝ }
+// May a row of the zone lie in the box for grade `x`?
+fn reached(logic: Logic, wanted: &[u8], spans: &[u16], bounds: &[u8], zone: &[u8], x: usize) -> bool
+    requires { ⌜ (logic .steps ≤ 16) × (17 ≤ length (now wanted)) × (34 ≤ length (now spans)) × (length (now zone) ≡ 32) × (x ≤ logic .steps) ⌝ }
     requires { ⌜ Legible (logic .steps) (now wanted) (now spans) (now bounds) 16 ⌝ }
-    ensures { λ r. ⌜ (r ≡ false → Unreached (logic .steps) (now (wanted .entry)) (now (spans .entry)) (now (bounds .entry)) q (now (zone .entry)) x) ⌝ }
+    ensures { λ r. ⌜ (r ≡ false → MissedAt (logic .steps) (now (wanted .entry)) (now (spans .entry)) (now (bounds .entry)) (now (zone .entry)) x) ⌝ }
 {
-    if x + wide(zone[q]) < 255 {
-        return false;
-    }
-    if wide(zone[16 + q]) < x {
-        return false;
-    }
     if logic.steps < wanted[x] {
         return false;
     }
     !misses(box_of(spans, bounds, x), zone)
 }
 
-// Does no row of the zone lie in its box?
+// Is the box for grade `x` that for the grade before it, which is not below `low`?
+fn shared(logic: Logic, wanted: &[u8], spans: &[u16], low: usize, x: usize) -> bool
+    requires { ⌜ (x ≤ 16) × (17 ≤ length (now wanted)) × (34 ≤ length (now spans)) ⌝ }
+    ensures { λ r. ⌜ (r ≡ true → (low < x) × (getD (now (wanted .entry)) (x - 1) 0 ≤ logic .steps)
+        × (getD (now (spans .entry)) (2 * x) 0 ≡ getD (now (spans .entry)) (2 * (x - 1)) 0)
+        × (getD (now (spans .entry)) (2 * x + 1) 0 ≡ getD (now (spans .entry)) (2 * (x - 1) + 1) 0)) ⌝ }
+{
+    if x <= low {
+        return false;
+    }
+    if logic.steps < wanted[x - 1] {
+        return false;
+    }
+    if spans[2 * x] != spans[2 * (x - 1)] {
+        return false;
+    }
+    spans[2 * x + 1] == spans[2 * (x - 1) + 1]
+}
+
+// The highest grade of the zone at slot `q`, or of the chain where that is less.
+fn highest(logic: Logic, q: usize, zone: &[u8]) -> usize
+    requires { ⌜ (q < 16) × (length (now zone) ≡ 32) ⌝ }
+    ensures { λ r. ⌜ (r ≤ logic .steps) × ((x : ℕ) → x ≤ logic .steps → x ≤ getD (now (zone .entry)) (16 + q) 0 → x ≤ r) ⌝ }
+{
+    let steps = logic.steps as usize;
+    let top = wide(zone[16 + q]);
+    if steps < top { steps } else { top }
+}
+
+// Does no row of the zone lie in its box? Each box that the zone's grades at slot `q` may want is tested once.
 fn hopeless(
     logic: Logic,
     wanted: &[u8],
@@ -264,13 +279,18 @@ fn hopeless(
     ensures { λ r. ⌜ (r ≡ true → (x : ℕ) → x ≤ logic .steps
         → Unreached (logic .steps) (now (wanted .entry)) (now (spans .entry)) (now (bounds .entry)) q (now (zone .entry)) x) ⌝ }
 {
-    let steps = logic.steps as usize;
-    let mut x = 0;
-    while x <= steps {
-        if reached(logic, wanted, spans, bounds, q, zone, x) {
+    let low = wide(255 - zone[q]);
+    let high = highest(logic, q, zone);
+    let mut next = low;
+    while next <= high {
+        let x = next;
+        next += 1;
+        if shared(logic, wanted, spans, low, x) {
+            continue;
+        }
+        if reached(logic, wanted, spans, bounds, zone, x) {
             return false;
         }
-        x += 1;
     }
     true
 }
