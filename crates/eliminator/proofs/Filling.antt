@@ -1,8 +1,8 @@
 -- Laws of entering the candidates.
 -- Assumes nothing.
-use mathlib.Core.Path.{_≡_, sym, ap, subst, _∙_}
+use mathlib.Core.Path.{_≡_, sym, ap, _∙_}
 use mathlib.Core.Logic.{dite, _↔_}
-use mathlib.Core.List.{List, _++_}
+use mathlib.Core.List.{List}
 use Prim.Native.Nat.{ℕ, _+_, _-_, _≤_, _<_}
 use native.Mathlib.Decide.{ℕ-discrete}
 use native.Mathlib.Numerals.{add-one}
@@ -19,8 +19,7 @@ use Rattle.semantics.specs.Candidates.{gradeIn}
 use Rattle.sections.specs.Rules.{ruleCount, ruleAt, rulesOf, RulesRight}
 use Rattle.slots.specs.Slots.{slotCount, slotChild, slotTerm}
 use Rattle.slots.specs.Rows.{SlotRow}
-use Rattle.grades.specs.Rows.{rowOf, HasGrades}
-use Rattle.grades.proofs.Rows.{front-grades}
+use Rattle.grades.specs.Rows.{HasGrades}
 use Rattle.elimination.specs.Survivors.{Obeys}
 use Rattle.elimination.specs.Marks.{Marked, marked?}
 use Rattle.partition.specs.Rows.{Names, Enrolled}
@@ -29,10 +28,6 @@ use Rattle.eliminator.specs.declared.Tally.{Tally}
 use Rattle.eliminator.specs.Filling.{RowObeys, Entered}
 
 -- ---- rules
-
--- a candidate's row, at the front of a list
-pub row-front : (G : Grading) (c : ℕ) (row rest : List ℕ) → row ≡ rowOf G c ++ rest → HasGrades G c row
-row-front G c row rest e = subst (HasGrades G c) (sym e) (front-grades G c rest)
 
 -- a candidate's row meets the rules when the candidate does
 module _ (G : Grading) (t : List ℕ) (ok : RulesRight t (length (G .terms))) (c : ℕ) (row : List ℕ) (g : HasGrades G c row) where

@@ -1,6 +1,6 @@
 -- Laws of rows of grades, of tables of rows, and of the link of two rows: it is that of their candidates.
 -- Assumes nothing.
-use mathlib.Core.Path.{_≡_, sym, ap, _∙_}
+use mathlib.Core.Path.{_≡_, sym, ap, subst, _∙_}
 use mathlib.Core.List.{List, _++_}
 use Prim.Native.Nat.{ℕ, _+_, _*_, _≤_}
 use native.Mathlib.Omega.{arith}
@@ -35,6 +35,10 @@ module _ (G : Grading) (c : ℕ) where
   -- the row at the front of a longer list
   pub front-grades : (xs : List ℕ) → HasGrades G c (rowOf G c ++ xs)
   front-grades xs i h = List·getD-append (rowOf G c) xs 0 i (rw length-row h) ∙ row-grades i h
+
+  -- as it is left where a row was filled in
+  pub filled-grades : (xs ys : List ℕ) → xs ≡ rowOf G c ++ ys → HasGrades G c xs
+  filled-grades xs ys e = subst (HasGrades G c) (sym e) (front-grades ys)
 
   -- on the chain, at every index
   pub row-le : WellFormed G → (i : ℕ) → getD (rowOf G c) i 0 ≤ G .steps

@@ -7,9 +7,10 @@ use Prim.Native.Nat.{ℕ, _+_, _*_, _/_, _≤_, _<_}
 use native.Mathlib.Decide.{ℕ-discrete}
 use native.Mathlib.Nat.{le-refl, le-trans}
 use native.Mathlib.Omega.{arith}
-use lib.ListN.{length, getD, drop, set, length-drop}
-use lib.Seq.{getD-take, getD-drop, getD-set-same, getD-set-other, length-take-le}
+use lib.ListN.{length, getD, drop, set}
+use lib.Seq.{getD-take, getD-drop, getD-set-same, getD-set-other}
 use borrow.Author.Count.{below-more}
+use Rattle.chain.proofs.Blocks.{length-block}
 use Rattle.zones.specs.Zones.{rowIn, zoneIn, Lies, Zoned, Wider}
 
 -- ---- entries
@@ -19,13 +20,13 @@ module _ (t : List ℕ) where
   row-at d j h = getD-take 16 (drop (16 * d) t) j 0 h ∙ getD-drop (16 * d) t j 0
 
   pub row-long : (d : ℕ) → 16 * d + 16 ≤ length t → length (rowIn t d) ≡ 16
-  row-long d h = length-take-le 16 (drop (16 * d) t) (omega (arith, length-drop (16 * d) t))
+  row-long d h = length-block 16 (16 * d) t h
 
   zone-at : (b j : ℕ) → j < 32 → getD (zoneIn t b) j 0 ≡ getD t (262144 + 32 * b + j) 0
   zone-at b j h = getD-take 32 (drop (262144 + 32 * b) t) j 0 h ∙ getD-drop (262144 + 32 * b) t j 0
 
   pub zone-long : (b : ℕ) → b < 256 → 270336 ≤ length t → length (zoneIn t b) ≡ 32
-  zone-long b h l = length-take-le 32 (drop (262144 + 32 * b) t) (omega (arith, length-drop (262144 + 32 * b) t))
+  zone-long b h l = length-block 32 (262144 + 32 * b) t (omega arith)
 
 -- ---- wider zones
 

@@ -9,8 +9,9 @@ use Rattle.sections.specs.Terms.{termsOf}
 use Rattle.sections.specs.Rules.{RulesRight}
 use Rattle.sections.proofs.Terms.{length-terms, terms-ordered}
 use Rattle.gradings.specs.Gradings.{grading}
+use Rattle.grades.proofs.Rows.{filled-grades}
 use Rattle.slots.proofs.Rows.{slots-below, slot-row-same}
-use Rattle.eliminator.proofs.Filling.{row-front, part-own, part-child, entered-more}
+use Rattle.eliminator.proofs.Filling.{part-own, part-child, entered-more}
 use Rattle.eliminator.proofs.enter.Statement.{statement}
 use Rattle.eliminator.proofs.enter.Tie as tie
 
@@ -108,7 +109,7 @@ returns c =
     let G = grading (a .logic) terms in
     let ordered = terms-ordered (a .terms .now) (w .terms-right) in
     let row = f .fill-row .last .1 .1 .1 .0 in
-    let grades = row-front G (a .c) row _ (f .fill-row .ensures) in
+    let grades = filled-grades G (a .c) row _ (f .fill-row .ensures) in
     let shown = slot-row-same (a .slots .now) _ (length terms) (gradeIn G (a .c)) _ (slots-below terms ordered (a .slots .now) (w .slots-are)) grades
     (p .put-slot-row .ensures) in
     let e = k .classify .ensures in

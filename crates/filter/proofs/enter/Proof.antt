@@ -1,14 +1,12 @@
 -- `filter::enter` meets its contract.
 -- Assumes nothing.
-use mathlib.Core.Path.{sym, subst}
 use Prim.Native.Nat.{_≤_, _+_, _*_}
 use native.Mathlib.Omega.{arith}
 use lib.ListN.{length}
 use borrow.Author.Needs.{needs}
 use Rattle.sections.specs.Terms.{termsOf}
 use Rattle.gradings.specs.Gradings.{grading}
-use Rattle.grades.specs.Rows.{HasGrades}
-use Rattle.grades.proofs.Rows.{front-grades}
+use Rattle.grades.proofs.Rows.{filled-grades}
 use Rattle.network.proofs.Rows.{length-rowAt}
 use Rattle.filter.proofs.Filter.{slots-within, claims-within, entered-by}
 use Rattle.filter.proofs.enter.Statement.{statement}
@@ -66,7 +64,7 @@ returns c =
     let a = s .args in
     let G = grading (a .logic) (termsOf (a .terms .now)) in
     let full = r .fill-row .last .1 .1 .1 .0 in
-    let are : HasGrades G (a .c) full = subst (HasGrades G (a .c)) (sym (r .fill-row .ensures)) (front-grades G (a .c) _) in
+    let are = filled-grades G (a .c) full _ (r .fill-row .ensures) in
     entered-by (s .pre .0) full are (p .put-row .ensures .0) (p .put-row .ensures .1) (c .before .before .before .before .row-at .ensures)
     (c .before .before .allow-row .ensures)
 
