@@ -8,7 +8,7 @@
  *   - each pointer is valid for the length given with it, and not NULL, also where the length is 0;
  *   - a buffer that a call writes overlaps no other buffer of that call.
  * A call keeps nothing for a later one, so calls from several threads are safe as long as no thread writes a buffer that another
- * one uses. There is no heap: zegbiko_decide and zegbiko_write_sheet use some 1.6 MB of stack, the others some 5 KB.
+ * one uses. There is no heap: zegbiko_decide and zegbiko_write_sheet use some 1.2 MB of stack, the others some 5 KB.
  *
  * In each answer `refusal` is 0 if the call is answered, else the number of the first check that says no (below), and then
  * every other field is 0. A refusal changes no buffer, but for 17 to 19: these come after deciding, so marks and placement are then

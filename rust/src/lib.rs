@@ -5,8 +5,8 @@
 //! for 17 to 19, which come after deciding. Buffers of [`MARKS`], [`PLACEMENT`], [`SHEET`] and [`GRID`] bytes suffice for
 //! every book.
 //!
-//! No call keeps anything for a later one, and none uses the heap. [`decide`] and [`write_sheet`] need some 1.6 MB of
-//! stack: a thread with Rust's default of 2 MB suffices, one of 1.5 MB does not. The others need a few KB.
+//! No call keeps anything for a later one, and none uses the heap. [`decide`] and [`write_sheet`] need some 1.2 MB of
+//! stack: a thread with Rust's default of 2 MB suffices, one of 1 MB does not. The others need a few KB.
 //!
 //! The book printed in the specification grades A and "not A" alike, on two steps, and claims A at least 1 of individual 0:
 //!
@@ -182,7 +182,7 @@ pub fn count(book: &[u8]) -> Result<u64, Refusal> {
 /// [`Outcome::HoldsTogether`] two bytes of `placement` for each individual, the high byte first, are set to the
 /// candidate at which it is placed; the bytes past them are kept, and for the other outcomes all of them.
 ///
-/// Needs some 1.6 MB of stack; a thread of Rust's default size has it.
+/// Needs some 1.2 MB of stack; a thread of Rust's default size has it.
 pub fn decide(book: &[u8], marks: &mut [u8], placement: &mut [u8]) -> Result<Decided, Refusal> {
     // SAFETY: see `check`.
     let decided = unsafe {
@@ -211,7 +211,7 @@ pub fn decide(book: &[u8], marks: &mut [u8], placement: &mut [u8]) -> Result<Dec
 /// The model's elements are the survivors, ascending, with the individuals as placed. The bytes of `sheet` past the sheet
 /// are kept, and on a refusal all of them; a refusal with 17 to 19 leaves `marks` and `placement` as decided.
 ///
-/// Needs some 1.6 MB of stack; a thread of Rust's default size has it.
+/// Needs some 1.2 MB of stack; a thread of Rust's default size has it.
 pub fn write_sheet(book: &[u8], marks: &mut [u8], placement: &mut [u8], sheet: &mut [u8]) -> Result<usize, Refusal> {
     // SAFETY: see `check`.
     let written = unsafe {

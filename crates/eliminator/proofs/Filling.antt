@@ -3,7 +3,7 @@
 use mathlib.Core.Path.{_≡_, sym, ap, _∙_}
 use mathlib.Core.Logic.{dite, _↔_}
 use mathlib.Core.List.{List}
-use Prim.Native.Nat.{ℕ, _+_, _-_, _≤_, _<_}
+use Prim.Native.Nat.{ℕ, _+_, _≤_, _<_}
 use native.Mathlib.Decide.{ℕ-discrete}
 use native.Mathlib.Numerals.{add-one}
 use native.Mathlib.Omega.{arith}
@@ -63,11 +63,8 @@ module _ (slots : List ℕ) (f : ℕ → ℕ) (part : List ℕ) (w : SlotRow slo
   pub part-own : (q : ℕ) → q < slotCount slots → getD (take (slotCount slots) part) q 0 ≡ f (slotTerm slots q)
   part-own q h = getD-take (slotCount slots) part q 0 h ∙ w .own-is q h
 
-  pub part-child : (q : ℕ) → q < slotCount slots
-      → getD (take (slotCount slots + slotCount slots - slotCount slots) (drop (slotCount slots) part)) q 0 ≡ f (slotChild slots q)
-  part-child q h =
-      getD-take (slotCount slots + slotCount slots - slotCount slots) (drop (slotCount slots) part) q 0 (omega arith) ∙ getD-drop (slotCount slots) part q 0
-      ∙ w .child-is q h
+  pub part-child : (q : ℕ) → q < slotCount slots → getD (take (slotCount slots) (drop (slotCount slots) part)) q 0 ≡ f (slotChild slots q)
+  part-child q h = getD-take (slotCount slots) (drop (slotCount slots) part) q 0 h ∙ getD-drop (slotCount slots) part q 0 ∙ w .child-is q h
 
 module _ (G : Grading) (t : List ℕ) (ok : RulesRight t (length (G .terms))) (slots own child source target marks : List ℕ) (few : slotCount slots ≤ 16) (b : ℕ)
     (before after : Tally) (E : Entered G (rulesOf t) slots own child source target marks b before) (own' child' source' target' row first second : List ℕ)

@@ -2,7 +2,7 @@
 ghost use mathlib.Core.Path.{_≡_};
 ghost use mathlib.Core.Logic.{_↔_};
 ghost use mathlib.Core.List.{_++_};
-ghost use Prim.Native.Nat.{ℕ, _+_, _-_, _<_, _≤_};
+ghost use Prim.Native.Nat.{ℕ, _+_, _<_, _≤_};
 ghost use lib.ListN.{length, getD, take, drop};
 ghost use Rattle.sections.specs.Terms.{termsOf};
 ghost use Rattle.sections.specs.Rules.{rulesOf, RulesRight};
@@ -66,7 +66,7 @@ fn classify(
     requires { ⌜ Roomy (now own) (now child) (now source) (now target) × (16384 ≤ length (now first)) × (16384 ≤ length (now second)) ⌝ }
     requires { ⌜ Indexed (now first) (now second) t ⌝ }
     ensures { λ r. ⌜ Enrolled (take m (now (part .entry))) m (now (own .entry)) (now (own .exit)) (now (source .entry)) (now (source .exit)) c (t .sources) (r .sources) ⌝ }
-    ensures { λ r. ⌜ Enrolled (take (m + m - m) (drop m (now (part .entry)))) m (now (child .entry)) (now (child .exit)) (now (target .entry)) (now (target .exit)) c (t .targets) (r .targets) ⌝ }
+    ensures { λ r. ⌜ Enrolled (take m (drop m (now (part .entry)))) m (now (child .entry)) (now (child .exit)) (now (target .entry)) (now (target .exit)) c (t .targets) (r .targets) ⌝ }
     ensures { λ r. ⌜ Indexed (now (first .exit)) (now (second .exit)) r × (r .left ≡ t .left) ⌝ }
 {
     let sources = enroll(own, first, source, &part[..m], m, n, c, t.sources);
@@ -108,8 +108,8 @@ fn enter(
     fill_row(terms, logic, c, &mut row);
     let mark = mark_by_rules(rules, &row);
     marks[c] = mark;
-    let mut now = t;
-    now.left += mark as usize;
+    let mut next = t;
+    next.left += mark as usize;
     put_slot_row(slots, &row, &mut part);
     classify(
         base(logic),
@@ -122,7 +122,7 @@ fn enter(
         first,
         second,
         c,
-        now,
+        next,
     )
 }
 

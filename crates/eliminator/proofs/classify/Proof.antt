@@ -1,6 +1,6 @@
 -- `eliminator::classify` meets its contract.
 -- Assumes nothing.
-use mathlib.Core.Path.{refl, sym}
+use mathlib.Core.Path.{_≡_, refl, sym}
 use Prim.Native.Nat.{_+_, _-_}
 use native.Mathlib.Omega.{arith}
 use lib.ListN.{drop, length-drop}
@@ -66,9 +66,12 @@ returns : tie.Need-returns
 returns c =
     let b = c .before .before .before .before .before .before in
     let a = b .before .before .before .before .before .before .before .before .before .before .before in
+    let s = a .before .before .before .before .before .before .before .before .before .before .before .before in
     let e = a .enroll .ensures in
     let f = b .enroll2 .ensures in
-    (e .1, (f .1, ((e .0, f .0), refl)))
+    let m = s .args .m in
+    let size : m + m - m ≡ m = omega arith in
+    (e .1, (rw size at (f .1), ((e .0, f .0), refl)))
 
 pub classify-spec : {M : Type 1} → statement M
 classify-spec =

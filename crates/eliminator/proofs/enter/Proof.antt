@@ -33,11 +33,11 @@ mark-by-rules-requires c κs =
 slice-write-marks : tie.Need-slice-write-marks
 slice-write-marks c = search needs
 
-cast-now : tie.Need-cast-now
-cast-now c = search needs
+cast-next : tie.Need-cast-next
+cast-next c = search needs
 
-add-now : tie.Need-add-now
-add-now c = search needs
+add-next : tie.Need-add-next
+add-next c = search needs
 
 slice-aggregate-put-slot-row : tie.Need-slice-aggregate-put-slot-row
 slice-aggregate-put-slot-row c = search needs
@@ -130,8 +130,8 @@ enter-spec =
     slice-aggregate-mark-by-rules
     mark-by-rules-requires
     slice-write-marks
-    cast-now
-    add-now
+    cast-next
+    add-next
     slice-aggregate-put-slot-row
     slice-aggregate-put-slot-row-2
     put-slot-row-requires
