@@ -42,8 +42,11 @@ returns : tie.Need-returns
 returns c =
     let w = c .before .before in
     let s = w .before .before .before .before .before .before .before .before in
-    let a = s .args in
-    (boxes-none (a .logic) (a .slots .now) (a .own .now) (a .c) (a .q) (a .wanted .now) (a .spans .now) (a .bounds .now) (a .x) (w .wants .result) (a .k) (omega (arith, s .pre .1 .0)) (s .pre .1 .1 .1) (w .wants .ensures) (c .if1 .taken), omega arith)
+    let a = s .args in (
+      boxes-none (a .logic) (a .slots .now) (a .own .now) (a .c) (a .q) (a .wanted .now) (a .spans .now) (a .bounds .now) (a .x) (w .wants .result) (a .k)
+          (omega (arith, s .pre .1 .0)) (s .pre .1 .1 .1) (w .wants .ensures) (c .if1 .taken),
+      omega arith,
+    )
 
 sub-if3 : tie.Need-sub-if3
 sub-if3 c = search needs
@@ -98,7 +101,8 @@ returns-2 c =
     let w = f .before .before in
     let s = w .before .before .before .before .before .before .before .before in
     let a = s .args in
-    let l = boxes-shared (a .logic) (a .slots .now) (a .own .now) (a .c) (a .q) (a .wanted .now) (a .spans .now) (a .bounds .now) (a .x) (w .wants .result) (a .k) (omega (arith, s .pre .1 .0)) (s .pre .1 .1 .1) (w .wants .ensures) (omega (arith, s .pre .1 .0)) (omega (arith, g .if2 .taken)) (omega (arith, f .if1 .left)) (i .if3 .taken) in (
+    let l = boxes-shared (a .logic) (a .slots .now) (a .own .now) (a .c) (a .q) (a .wanted .now) (a .spans .now) (a .bounds .now) (a .x) (w .wants .result) (a .k)
+    (omega (arith, s .pre .1 .0)) (s .pre .1 .1 .1) (w .wants .ensures) (omega (arith, s .pre .1 .0)) (omega (arith, g .if2 .taken)) (omega (arith, f .if1 .left)) (i .if3 .taken) in (
       subst (λ (z : List ℕ). Boxes (a .logic) (a .slots .now) (a .own .now) (a .c) (a .q) (set (a .wanted .now) (a .x) (w .wants .result)) z (a .bounds .now) (a .x + 1) (a .k))
           (sym (p .put-span .ensures)) l,
       omega arith,
@@ -137,7 +141,8 @@ returns-3 c =
     let a = s .args in
     let m = b .make-box in
     let bounds = m .last .1 .1 .1 .1 .1 .1 .0 in
-    let l = boxes-made (a .logic) (a .slots .now) (a .own .now) (a .c) (a .q) (a .wanted .now) (a .spans .now) (a .bounds .now) (a .x) (w .wants .result) (a .k) (omega (arith, s .pre .1 .0)) (s .pre .1 .1 .1) (w .wants .ensures) (omega (arith, s .pre .1 .0)) bounds (m .result) (m .ensures .0) in (
+    let l = boxes-made (a .logic) (a .slots .now) (a .own .now) (a .c) (a .q) (a .wanted .now) (a .spans .now) (a .bounds .now) (a .x) (w .wants .result) (a .k)
+    (omega (arith, s .pre .1 .0)) (s .pre .1 .1 .1) (w .wants .ensures) (omega (arith, s .pre .1 .0)) bounds (m .result) (m .ensures .0) in (
       subst (λ (z : List ℕ). Boxes (a .logic) (a .slots .now) (a .own .now) (a .c) (a .q) (set (a .wanted .now) (a .x) (w .wants .result)) z bounds (a .x + 1) (m .result))
           (sym (p .put-span2 .ensures)) l,
       m .ensures .1,
