@@ -2,25 +2,27 @@
 //!
 //! `ZEGBIKO_SEED` gives another seed, `ZEGBIKO_CASES` another number of cases; `ZEGBIKO_CASE` runs that one alone.
 
+mod compared;
 mod generate;
 mod plain;
 mod support;
 
-use std::collections::{BTreeMap, BTreeSet};
+use std::collections::BTreeSet;
 use std::env;
 use std::fs::File;
-use std::hint::black_box;
 use std::io::{Seek, Write};
 use std::thread;
 use std::time::Instant;
 
+use compared::compare;
+use compared::tally::Tally;
 use generate::damage::damaged;
 use generate::random::Random;
 use generate::{books, sheets};
 use plain::book::{Book, Term};
 use plain::Plain;
 use support::buffer::Buffer;
-use support::calls::{self, Answer, Call};
+use support::calls::{Answer, Call};
 
 const SEED: u64 = 1;
 const CASES: u64 = 100_000;
@@ -29,7 +31,7 @@ const CASES: u64 = 100_000;
 fn library_and_plain_implementation_agree() {
     let (seed, cases) = (setting("ZEGBIKO_SEED").unwrap_or(SEED), setting("ZEGBIKO_CASES").unwrap_or(CASES));
     if let Some(number) = setting("ZEGBIKO_CASE") {
-        Case::run(seed, number, &mut Tally::new());
+        Case::run(seed, number, &mut tally());
         println!("seed {seed}: case {number} agrees");
         return;
     }
@@ -38,7 +40,7 @@ fn library_and_plain_implementation_agree() {
     let work = |worker: usize| {
         // If the library crashes, or does not end, this file tells at which case.
         let mut note = File::create(format!("{}/differential-{worker}", env!("CARGO_TARGET_TMPDIR"))).expect("a file");
-        let mut tally = Tally::new();
+        let mut tally = tally();
         for number in (worker as u64..cases).step_by(workers) {
             note.rewind().and_then(|()| writeln!(note, "seed {seed} case {number}")).expect("a line");
             Case::run(seed, number, &mut tally);
@@ -46,13 +48,16 @@ fn library_and_plain_implementation_agree() {
         tally
     };
     // These threads have Rust's default stack of 2 MB, which the wrapper says suffices.
-    let tally = thread::scope(|scope| {
+    let tally: Tally = thread::scope(|scope| {
         let threads: Vec<_> = (0..workers).map(|worker| scope.spawn(move || work(worker))).collect();
-        threads.into_iter().map(|thread| thread.join().expect("no difference")).fold(Tally::new(), Tally::join)
+        threads.into_iter().map(|thread| thread.join().expect("no difference")).sum()
     });
-    println!("seed {seed}: {cases} cases agree, in {:.1} s", start.elapsed().as_secs_f64());
-    tally.print();
+    println!("seed {seed}: {cases} cases agree, in {:.1} s\n{tally}", start.elapsed().as_secs_f64());
     tally.demand_all();
+}
+
+fn tally() -> Tally {
+    Tally::demanding(&[("refusal", 1..=21), ("outcome", 1..=3), ("verdict", 0..=3)])
 }
 
 fn setting(name: &str) -> Option<u64> {
@@ -84,7 +89,7 @@ impl Case<'_> {
     }
 
     fn name(&self) -> String {
-        format!("seed {} case {}, book {}", self.seed, self.number, hex(&self.book))
+        format!("seed {} case {}", self.seed, self.number)
     }
 
     /// Counts books of the special kinds; each kind has to occur.
@@ -197,41 +202,11 @@ impl Case<'_> {
         }
     }
 
-    /// Makes a call of both sides on buffers that held the same, and gives the answer and the buffers after it.
     fn compare(&mut self, call: Call, sheet: &[u8]) -> (Answer, Vec<Buffer>) {
-        let held: Vec<_> = call.lengths().into_iter().map(|length| self.random.bytes(length)).collect();
-        let buffers = |margin| -> Vec<_> { held.iter().map(|bytes| Buffer::new(bytes, margin)).collect() };
-        let mut expected = buffers(0);
-        let answer = calls::plain(&self.plain, sheet, call, &mut expected);
-        let margin = 1 + self.random.below(64);
-        for (library, margin) in [(calls::wrapped as calls::Side, margin), (calls::raw, 0)] {
-            let inputs = [&self.book, sheet].map(|bytes| Buffer::new(bytes, margin));
-            let mut found = buffers(margin);
-            let found_answer = library(inputs[0].contents(), inputs[1].contents(), call, &mut found);
-            // A shared slice must not change; the compiler may not rely on it here, where just that is in question.
-            let (inputs, found) = black_box((inputs, found));
-
-            let mut differences = Vec::new();
-            if found_answer != answer {
-                differences.push(format!("plain answers {answer:?}, the library {found_answer:?}"));
-            }
-            for (number, (plain, library)) in expected.iter().zip(&found).enumerate() {
-                let mut bytes = plain.contents().iter().zip(library.contents());
-                if let Some(at) = bytes.position(|(plain, library)| plain != library) {
-                    differences.push(format!("buffer {number} differs from byte {at} on"));
-                }
-            }
-            if inputs[0].contents() != self.book || inputs[1].contents() != sheet {
-                differences.push("an input is changed".into());
-            }
-            if !inputs.iter().chain(&found).all(Buffer::margins_kept) {
-                differences.push("a margin is changed".into());
-            }
-            let differences = differences.join("; ");
-            assert!(differences.is_empty(), "{}: {call:?}: {differences}\nsheet {}", self.name(), hex(sheet));
-        }
+        let compared = compare(&mut self.random, &self.book, &self.plain, sheet, call);
+        let (answer, buffers) = compared.unwrap_or_else(|difference| panic!("{}: {difference}", self.name()));
         self.tally.add_answer(call, answer);
-        (answer, expected)
+        (answer, buffers)
     }
 }
 
@@ -248,52 +223,4 @@ fn roles(book: &Book) -> BTreeSet<u8> {
 fn individuals(book: &Book) -> BTreeSet<usize> {
     let linked = book.links.iter().flat_map(|claim| [claim.from, claim.to]);
     book.memberships.iter().map(|claim| claim.individual).chain(linked).collect()
-}
-
-fn hex(bytes: &[u8]) -> String {
-    bytes.iter().map(|byte| format!("{byte:02X}")).collect::<Vec<_>>().join(" ")
-}
-
-/// How often each thing was seen. What is named here with 0 must be seen in the end.
-struct Tally(BTreeMap<String, usize>);
-
-impl Tally {
-    fn new() -> Tally {
-        let refusals = (1..=21).map(|number| format!("refusal {number:2}"));
-        let outcomes = (1..=3).map(|number| format!("outcome {number}"));
-        let verdicts = (0..=3).map(|number| format!("verdict {number}"));
-        Tally(refusals.chain(outcomes).chain(verdicts).map(|name| (name, 0)).collect())
-    }
-
-    fn add(&mut self, name: &str, seen: bool) {
-        *self.0.entry(name.into()).or_default() += usize::from(seen);
-    }
-
-    fn add_answer(&mut self, call: Call, [refusal, first, ..]: Answer) {
-        self.add(&format!("call {}", call.name()), true);
-        match call {
-            _ if refusal != 0 => self.add(&format!("refusal {refusal:2}"), true),
-            Call::Decide { .. } => self.add(&format!("outcome {first}"), true),
-            Call::WorkOut { .. } => self.add(&format!("verdict {first}"), true),
-            _ => {}
-        }
-    }
-
-    fn join(mut self, other: Tally) -> Tally {
-        for (name, count) in other.0 {
-            *self.0.entry(name).or_default() += count;
-        }
-        self
-    }
-
-    fn print(&self) {
-        for (name, count) in &self.0 {
-            println!("{count:9} {name}");
-        }
-    }
-
-    fn demand_all(&self) {
-        let missing: Vec<_> = self.0.iter().filter(|(_, count)| **count == 0).map(|(name, _)| name).collect();
-        assert!(missing.is_empty(), "never seen: {missing:?}");
-    }
 }

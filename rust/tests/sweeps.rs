@@ -1,0 +1,260 @@
+//! Sweeps over books and sheets: cut at every length, with every byte changed to every value, with every set of faults. On
+//! each the library, by the wrapper and by the C calls, must answer and write what the plain implementation does.
+
+mod compared;
+// Of these the other tests use what is left unused here.
+#[allow(dead_code)]
+mod generate;
+#[allow(dead_code)]
+mod plain;
+#[allow(dead_code)]
+mod support;
+
+use std::iter;
+use std::time::Instant;
+
+use compared::compare;
+use compared::tally::Tally;
+use generate::damage::damaged;
+use generate::random::Random;
+use plain::book::{Book, Grade};
+use plain::grades::Interpretation;
+use plain::Plain;
+use support::buffer::Buffer;
+use support::calls::{Answer, Call};
+use support::draft::{Draft, ALL, AND, NAME, NOT, OR, SOME, TOP};
+
+/// With more candidates a book is not decided here: the plain implementation takes long.
+const FEW: usize = 256;
+
+/// The book that document 01 prints.
+const PRINTED: &str = "
+    01 02  00 12 00 02  00 18 00 02  00 1C 00 01  00 20 00 00
+    00 00 00  01 00 00
+    00 01  01 00
+    00 00 00 01
+";
+
+/// All kinds of terms, quantified four deep, and a rule and claims that some interpretations break. N is 4.
+const FOUR_DEEP: &str = "
+    01 04  00 12 00 10  00 42 00 01  00 44 00 02  00 4C 00 01
+    00 00 00  00 01 00  06 00 00  07 00 00  01 00 00  02 01 04  03 00 05  04 00 01
+    05 01 00  04 01 05  05 00 07  01 0A 00  04 00 0B  05 01 0C  02 0D 09  03 0E 08
+    0E 0D
+    00 07 00 01  01 0F 01 03
+    01 00 01 01
+";
+
+/// Every sort of record. N is 2, and there are eight places: with one more there are too many candidates.
+const LARGER: &str = "
+    01 02  00 12 00 30  00 A2 00 18  00 D2 00 10  01 12 00 0C
+    00 00 00  00 07 00  00 0F 00  00 04 00  01 00 00  02 01 04  03 02 03  06 00 00  07 00 00  04 00 05  05 07 06  04 03 07
+    05 03 08  07 00 00  06 00 00  01 0E 00  02 03 07  03 05 02  02 04 04  02 05 05  02 06 05  02 0B 0D  02 0A 09  01 13 00
+    02 09 0F  02 0F 16  02 17 0B  06 00 00  01 0E 00  02 18 07  03 10 08  03 18 19  03 05 0D  03 15 11  06 00 00  01 09 00
+    01 22 00  02 1A 09  03 24 08  03 17 09  01 1A 00  02 1D 1F  02 1E 19  03 1F 15  02 1F 11  06 00 00  01 13 00  02 2E 00
+    00 01  2F 00  00 2F  0D 0D  15 29  0B 25  00 1E  23 10  14 2A  11 1D  12 20  29 2B
+    16 16  11 29  16 2F  1A 16  0B 2C  1C 17  15 21  09 21  0A 0C  17 1E  12 2C  05 2E
+    00 00 00 00  07 2F 01 02  06 0A 01 01  04 2E 00 00  02 25 01 02  02 0E 00 02  00 1E 00 00  00 08 00 01
+    02 1E 00 02  00 1A 01 01  06 2A 00 02  03 0F 01 00  05 19 01 01  01 2C 01 00  04 06 01 02  05 25 01 01
+    00 00 00 00  07 07 07 02  02 06 06 02  05 07 02 00  06 07 03 00  01 05 00 01
+    01 05 02 01  06 06 06 00  07 04 07 02  06 06 02 02  04 04 07 01  06 00 05 01
+";
+
+fn from_hex(text: &str) -> Vec<u8> {
+    let byte = |digits| u8::from_str_radix(digits, 16).expect("two hexadecimal digits");
+    text.split_whitespace().map(byte).collect()
+}
+
+struct Sweep {
+    start: Instant,
+    random: Random,
+    tally: Tally,
+    compared: usize,
+}
+
+impl Sweep {
+    fn begin(number: u64, tally: Tally) -> Sweep {
+        Sweep { start: Instant::now(), random: Random::of(1, number), tally, compared: 0 }
+    }
+
+    /// Compares the calls on a book, and gives the answer to counting.
+    fn book(&mut self, book: &[u8]) -> Answer {
+        self.compared += 1;
+        let plain = Plain::open(book);
+        self.call(book, &plain, &[], Call::Check);
+        if let Some(marks) = plain.count().ok().filter(|&count| count <= FEW) {
+            self.call(book, &plain, &[], Call::Decide { marks, placement: zegbiko::PLACEMENT });
+        }
+        self.call(book, &plain, &[], Call::Count).0
+    }
+
+    /// Compares what is worked out of a sheet, with grids of these lengths, and gives them.
+    fn sheet(&mut self, book: &[u8], plain: &Plain, sheet: &[u8], grids: &[usize]) -> Vec<Buffer> {
+        self.compared += 1;
+        grids.iter().flat_map(|&grid| self.call(book, plain, sheet, Call::WorkOut { grid }).1).collect()
+    }
+
+    fn call(&mut self, book: &[u8], plain: &Plain, sheet: &[u8], call: Call) -> (Answer, Vec<Buffer>) {
+        let compared = compare(&mut self.random, book, plain, sheet, call);
+        let (answer, buffers) = compared.unwrap_or_else(|difference| panic!("{difference}"));
+        self.tally.add_answer(call, answer);
+        (answer, buffers)
+    }
+
+    fn end(self, what: &str) {
+        let seconds = self.start.elapsed().as_secs_f64();
+        println!("{} {what} agree, in {seconds:.1} s\n{}", self.compared, self.tally);
+        self.tally.demand_all();
+    }
+}
+
+/// The bytes at every length up to the longest, cut or with zeros behind them.
+fn cut_and_extended(bytes: &[u8], longest: usize) -> impl Iterator<Item = Vec<u8>> + '_ {
+    (0..=longest).map(|length| bytes.iter().copied().chain(iter::repeat(0)).take(length).collect())
+}
+
+/// Every byte changed to every other value.
+fn changed(bytes: &[u8]) -> impl Iterator<Item = Vec<u8>> + '_ {
+    let changes = (0..bytes.len()).flat_map(|at| (1..=255).map(move |by| (at, by)));
+    changes.map(|(at, by)| {
+        let mut bytes = bytes.to_vec();
+        bytes[at] = bytes[at].wrapping_add(by);
+        bytes
+    })
+}
+
+#[test]
+fn books() {
+    let mut sweep = Sweep::begin(0, Tally::demanding(&[("refusal", 1..=10), ("outcome", 1..=3)]));
+    for book in [PRINTED, LARGER].map(from_hex) {
+        for book in cut_and_extended(&book, zegbiko::BOOK_MOST + 1).chain(changed(&book)) {
+            sweep.book(&book);
+        }
+        for _ in 0..5_000 {
+            let right = sweep.random.below(book.len());
+            let rest = sweep.random.bytes(book.len() - right);
+            sweep.book(&[&book[..right], &rest].concat());
+        }
+    }
+    sets_of_faults(&mut sweep);
+    for _ in 0..20_000 {
+        let book = drawn(&mut sweep.random);
+        sweep.book(&book);
+    }
+    sweep.end("books");
+}
+
+/// For each check from 2 on a byte, and the value with which it says no.
+const FAULTS: [(usize, u8); 9] = [(0, 2), (1, 9), (17, 65), (3, 17), (63, 8), (66, 16), (68, 8), (72, 8), (60, SOME)];
+
+/// Whatever faults a book has, the first check that says no gives the number.
+fn sets_of_faults(sweep: &mut Sweep) {
+    let mut sound = Draft::new(1);
+    sound.terms = (0..14).map(|name| [NAME, name, 0]).chain([[NOT, 0, 0], [TOP, 0, 0]]).collect();
+    (sound.rules, sound.memberships, sound.links) = (vec![[0; 2]], vec![[0; 4]], vec![[0; 4]]);
+    for set in 0..1 << 10 {
+        let mut book = sound.bytes();
+        let has = |check: usize| set >> (check - 1) & 1 == 1;
+        for (check, (at, value)) in (2..).zip(FAULTS) {
+            if has(check) {
+                book[at] = value;
+            }
+        }
+        if has(1) {
+            book.resize(zegbiko::BOOK_MOST + 1, 0);
+        }
+        let first = (1..=10).find(|&check| has(check)).unwrap_or(0);
+        assert_eq!(sweep.book(&book)[0], first, "{book:?}");
+    }
+}
+
+/// The head agrees with the records. Each of their bytes is below its bound, or, one in a hundred, the bound. One book in
+/// four is damaged.
+fn drawn(random: &mut Random) -> Vec<u8> {
+    let mut book = Draft::new(1 + random.up_to(7));
+    let mut byte = |bound: u8| if random.one_in(100) { bound } else { random.up_to(bound.saturating_sub(1)) };
+    for number in 0..byte(13) {
+        let kind = if number == 0 { NAME } else { byte(8) };
+        let (a, b) = match kind {
+            NAME => (16, 1),
+            NOT => (number, 1),
+            AND | OR => (number, number),
+            SOME | ALL => (8, number),
+            _ => (1, 1),
+        };
+        book.term(kind, byte(a), byte(b));
+    }
+    let (terms, grades) = (book.terms.len() as u8, book.steps + 1);
+    book.rules = (0..byte(5)).map(|_| [terms, terms].map(&mut byte)).collect();
+    book.memberships = (0..byte(5)).map(|_| [8, terms, 2, grades].map(&mut byte)).collect();
+    book.links = (0..byte(5)).map(|_| [8, 8, 8, grades].map(&mut byte)).collect();
+    if random.one_in(4) {
+        damaged(random, book.bytes())
+    } else {
+        book.bytes()
+    }
+}
+
+#[test]
+fn sheets() {
+    let mut sweep = Sweep::begin(1, Tally::demanding(&[("refusal", 13..=16), ("verdict", 0..=3)]));
+    for book in [PRINTED, FOUR_DEEP, LARGER].map(from_hex) {
+        let plain = Plain::open(&book);
+        let read = plain.book().expect("a right book");
+        for elements in 1..=4 {
+            let sheet = right(&mut sweep.random, read, elements);
+            let cells = elements * read.terms.len();
+            sweep.sheet(&book, &plain, &sheet, &Vec::from_iter(0..=cells));
+            for other in cut_and_extended(&sheet, sheet.len() + 20).chain(changed(&sheet)) {
+                sweep.sheet(&book, &plain, &other, &[cells - 1, cells + 20]);
+            }
+            for _ in 0..250 {
+                let sheet = right(&mut sweep.random, read, elements);
+                sweep.sheet(&book, &plain, &sheet, &[cells]);
+            }
+        }
+    }
+    for elements in (0..4).flat_map(|_| 1..=64) {
+        let book = deep(&mut sweep.random);
+        let plain = Plain::open(&book);
+        let sheet = right(&mut sweep.random, plain.book().expect("a right book"), elements);
+        let grid = &sweep.sheet(&book, &plain, &sheet, &[zegbiko::GRID + 20])[0];
+        let mut deepest = grid.contents().chunks(64).take(elements).map(|row| row[63]);
+        let first = deepest.next();
+        sweep.tally.add("sheets of the greatest length", sheet.len() == zegbiko::SHEET);
+        sweep.tally.add("sheets where the deepest term has several grades", deepest.any(|grade| Some(grade) != first));
+    }
+    sweep.end("sheets");
+}
+
+/// A right sheet. Of an element's links for a role all but some three are 0: with many links deep terms have one grade
+/// everywhere.
+fn right(random: &mut Random, book: &Book, elements: usize) -> Vec<u8> {
+    let mut rows = |width, drawn| -> Vec<Vec<Grade>> {
+        let mut grade = || if random.below(width) < drawn { random.up_to(book.steps) } else { 0 };
+        (0..elements).map(|_| (0..width).map(|_| grade()).collect()).collect()
+    };
+    let names = rows(book.names(), book.names());
+    let links = (0..book.roles()).map(|_| rows(elements, 3)).collect();
+    let individuals = (0..book.individuals()).map(|_| random.below(elements)).collect();
+    book.sheet_of(&Interpretation { elements, names, links, individuals })
+}
+
+/// 64 terms, each but the names over the one before it, and most of them quantified. The sheets of such a book are the
+/// longest, but for their number of elements.
+fn deep(random: &mut Random) -> Vec<u8> {
+    let mut book = Draft::new(1 + random.up_to(7));
+    book.terms = [0, 5, 10, 15].map(|name| [NAME, name, 0]).to_vec();
+    for last in 3..63 {
+        match random.below(8) {
+            0 => book.term(NOT, last, 0),
+            1 => book.term(AND, last, random.up_to(last)),
+            2 => book.term(OR, last, random.up_to(last)),
+            _ => book.term(random.pick(&[SOME, ALL]), random.up_to(7), last),
+        };
+    }
+    book.rules.push([random.up_to(63), random.up_to(63)]);
+    book.memberships.push([random.up_to(7), 63, random.up_to(1), random.up_to(book.steps)]);
+    book.links.push([7, 7, random.up_to(7), random.up_to(book.steps)]);
+    book.bytes()
+}
