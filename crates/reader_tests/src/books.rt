@@ -11,7 +11,7 @@ pub fn blank() -> [u8; 1024]
 }
 
 // Each writer answers the place after what it wrote. Where the room is used up, nothing is written.
-pub fn byte(b: &mut [u8], at: usize, x: u8) -> usize {
+fn byte(b: &mut [u8], at: usize, x: u8) -> usize {
     if at < b.len() {
         b[at] = x;
         return at + 1;

@@ -2,7 +2,7 @@
 // the number of candidates.
 use crate::answers::Answer;
 use crate::books::blank;
-use crate::judged::expect;
+use crate::reader::expect;
 use crate::recipes::Recipe;
 use crate::recipes::run;
 use reports::tally::Tally;

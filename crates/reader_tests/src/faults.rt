@@ -1,9 +1,5 @@
 // A book that one change makes fail any check: the first check that says no gives the number.
 use crate::books;
-use crate::books::blank;
-use crate::judged::compare;
-use reports::tally::Tally;
-use reports::tally::begin;
 use reports::text::set;
 
 // 76 bytes, N 1. From 18: 14 names, at 60 not 0, at 63 a top; 66: a rule; 68: a membership claim; 72: a link claim, all of zeros.
@@ -46,40 +42,10 @@ fn spoil(b: &mut [u8], number: u8) {
     set(b, place(number), value(number));
 }
 
-fn length(too_long: bool) -> usize {
-    if too_long { 851 } else { 76 }
-}
-
 // Writes the book with two faults, the first of which may be that of check 1, and answers its length; 0 is no fault.
 pub fn make(b: &mut [u8], one: u8, other: u8) -> usize {
     sound(b);
     spoil(b, one);
     spoil(b, other);
-    length(one == 1)
-}
-
-// Every fault whose bit is set, the lowest being that of check 1.
-fn spoil_all(b: &mut [u8], set: u32) {
-    let mut rest = set;
-    for number in 1..11 {
-        let fault = if rest % 2 == 1 { number } else { 0 };
-        spoil(b, fault);
-        rest /= 2;
-    }
-}
-
-fn case(t: Tally, set: u32) -> Tally {
-    let mut b = blank();
-    sound(&mut b);
-    spoil_all(&mut b, set);
-    compare(t, &b, length(set % 2 == 1))
-}
-
-// Every set of faults.
-pub fn sets() -> Tally {
-    let mut t = begin();
-    for set in 0..1024 {
-        t = case(t, set);
-    }
-    t
+    if one == 1 { 851 } else { 76 }
 }

@@ -1,14 +1,10 @@
-// Runs damaged books through the proved reader, and compares its answers with expected ones and with those of a second checker.
+// Runs right and damaged books through the proved reader, and compares its answers with those written by hand.
 mod answers;
 mod books;
 mod cases;
 mod faults;
-mod judged;
-mod random;
 mod reader;
 mod recipes;
-mod second;
-mod sweeps;
 
 use reports::tally;
 use reports::tally::Tally;
@@ -36,20 +32,8 @@ fn bodies(mut total: Tally) -> Tally {
     total
 }
 
-// Books for which the second checker is believed.
-fn compared(mut total: Tally) -> Tally {
-    total = close(total, b"sets of faults", faults::sets());
-    total = close(total, b"printed book cut", sweeps::printed_cut());
-    total = close(total, b"printed book changed", sweeps::printed_changed());
-    total = close(total, b"larger book cut", sweeps::larger_cut());
-    total = close(total, b"larger book changed", sweeps::larger_changed());
-    total = close(total, b"random books", random::books());
-    total
-}
-
 fn main() {
     let mut total = heads(tally::begin());
     total = bodies(total);
-    total = compared(total);
     tally::print(b"total", total);
 }

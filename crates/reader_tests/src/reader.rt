@@ -1,14 +1,25 @@
 // The reader under test, asked by both of its calls.
+ghost use Prim.Native.Nat.{_<_};
 use crate::answers::Answer;
 use crate::answers::accepted;
+use crate::answers::judge;
 use crate::answers::refused;
-use crate::second::two;
 use book::Counted;
 use book::Opened;
 use book::Sections;
+use reports::numbers::wide;
+use reports::tally::Tally;
+use reports::text::byte;
 
 // Stands for two calls that contradict each other, or for sections that are not those of the book.
 const APART: u8 = 99;
+
+// Two bytes, the high one first.
+fn two(b: &[u8], at: usize) -> usize
+    requires { ⌜ at < 1000 ⌝ }
+{
+    wide(byte(b, at)) * 256 + wide(byte(b, at + 1))
+}
 
 // Are the sections the stretches that the entries name, up to the end of the book?
 fn named(b: &[u8], s: Sections) -> bool {
@@ -40,9 +51,17 @@ fn after_opening(b: &[u8], s: Sections) -> Answer {
     }
 }
 
-pub fn answer(b: &[u8]) -> Answer {
+fn answer(b: &[u8]) -> Answer {
     match book::open(b) {
         Opened::Refused(number) => after_refusal(b, number),
         Opened::Accepted(s) => after_opening(b, s),
     }
+}
+
+// A case. The book is the first bytes of `b`; one that does not fit differs from any.
+pub fn expect(t: Tally, b: &[u8], length: usize, expected: Answer) -> Tally {
+    if b.len() < length {
+        return judge(t, expected, refused(0));
+    }
+    judge(t, expected, answer(&b[0..length]))
 }

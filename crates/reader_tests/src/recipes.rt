@@ -6,7 +6,7 @@ use crate::answers::refused;
 use crate::books;
 use crate::books::blank;
 use crate::faults;
-use crate::judged::expect;
+use crate::reader::expect;
 use reports::tally::Tally;
 use reports::text;
 use reports::text::Row;

@@ -1,9 +1,7 @@
-// Runs sheets, grades and links through the proved entry points, and compares the answers and grids with expected ones.
+// Runs sheets, grades and links through the proved entry points, and compares the answers and grids with those written by hand.
 mod answers;
 mod cases;
-mod compared;
 mod runs;
-mod second;
 
 use reports::tally;
 use reports::tally::close;
@@ -18,7 +16,5 @@ fn main() {
     total = close(total, b"verdicts", cases::verdicts());
     total = close(total, b"grades", cases::grades());
     total = close(total, b"links", cases::links());
-    total = close(total, b"compared", compared::small());
-    total = close(total, b"largest", compared::largest());
     tally::print(b"total", total);
 }
