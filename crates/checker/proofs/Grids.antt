@@ -15,13 +15,13 @@ use Rattle.chain.proofs.Lists.{length-table, getD-table}
 use Rattle.semantics.specs.Interpretations.{Grading, Interpretation, OnChain, gradeAt}
 use Rattle.book.specs.Opening.{Accepts, bookQuestions}
 use Rattle.book.specs.Reading.{bookOf}
+use Rattle.working.specs.Grids.{gradesAt, gridOf}
+use Rattle.working.specs.Working.{verdictOf, Says}
+use Rattle.working.specs.declared.Verdict.{Verdict}
+use Rattle.working.proofs.Working.{verdict-says}
 use Rattle.sheets.specs.Reading.{sheetOf}
-use Rattle.sheets.specs.Grids.{gradesAt, gridOf}
-use Rattle.sheets.specs.Working.{verdictOf, Says}
-use Rattle.sheets.specs.declared.Verdict.{Verdict}
 use Rattle.sheets.proofs.Opening.{none-right}
 use Rattle.sheets.proofs.Reading.{sheet-on-chain}
-use Rattle.sheets.proofs.Working.{verdict-says}
 use Rattle.sheets.proofs.Writing.{length-blocks, at-rows}
 use Rattle.checker.specs.Working.{gridSize, bookSheetQuestions, workQuestions, workedOf, gridAfter, workedNumber}
 use Rattle.checker.specs.declared.Worked.the-variants.{Refused, Says as Answers}

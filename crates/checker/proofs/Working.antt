@@ -24,11 +24,11 @@ use Rattle.book.specs.declared.Counts.{Counts}
 use Rattle.book.specs.declared.Opened.the-variants.{Refused as Closed}
 use Rattle.book.proofs.Opening.{opened-refused, right-accepts}
 use Rattle.book.proofs.Reading.{right-book, right-few, right-short, right-length, right-counts, right-valid}
+use Rattle.working.specs.Grids.{gridOf}
+use Rattle.working.specs.Working.{verdictOf}
 use Rattle.sheets.specs.Layout.{EntriesRight, nameBytes, linkBytes as sheetLinks, individualBytes}
 use Rattle.sheets.specs.Reading.{sheetOf}
-use Rattle.sheets.specs.Grids.{gridOf}
 use Rattle.sheets.specs.Opening.{sheetOpened}
-use Rattle.sheets.specs.Working.{verdictOf}
 use Rattle.sheets.specs.declared.Shape.{Shape}
 use Rattle.sheets.specs.declared.Sheet.{Sheet}
 use Rattle.sheets.specs.declared.Sheet.the-variants.{Refused as Unfit, Right as Fits}

@@ -9,11 +9,11 @@ use Rattle.chain.specs.Questions.{Question, ask, firstNo}
 use Rattle.semantics.specs.Books.{nameCount, roleCount, individuals}
 use Rattle.book.specs.Reading.{bookOf}
 use Rattle.book.specs.Opening.{bookQuestions}
+use Rattle.working.specs.Grids.{gridOf}
+use Rattle.working.specs.Working.{verdictOf}
 use Rattle.sheets.specs.Layout.{shapeOf}
 use Rattle.sheets.specs.Reading.{sheetOf}
-use Rattle.sheets.specs.Grids.{gridOf}
 use Rattle.sheets.specs.Opening.{sheetQuestions}
-use Rattle.sheets.specs.Working.{verdictOf}
 use Rattle.checker.specs.declared.Worked.{Worked}
 use Rattle.checker.specs.declared.Worked.the-variants.{Refused, Says}
 

@@ -8,8 +8,8 @@ ghost use Rattle.book.specs.Opening.{Right, countedOf};
 ghost use Rattle.book.specs.declared.Counted.the-variants.{Candidates};
 ghost use Rattle.book.specs.Reading.{bookOf};
 ghost use Rattle.sheets.specs.Reading.{sheetOf};
-ghost use Rattle.sheets.specs.Grids.{gridOf};
-ghost use Rattle.sheets.specs.Working.{verdictOf};
+ghost use Rattle.working.specs.Grids.{gridOf};
+ghost use Rattle.working.specs.Working.{verdictOf};
 ghost use Rattle.checker.specs.Asking.{gradeAnswer, linkAnswer};
 ghost use Rattle.checker.specs.Working.{gridSize, workedOf, gridAfter};
 ghost use Rattle.checker.specs.Fitting.{SheetFits, Filled};
@@ -18,7 +18,7 @@ use book::Opened;
 use book::Sections;
 use sheets::Shape;
 use sheets::Sheet;
-use sheets::Verdict;
+use working::Verdict;
 
 // The number of the first check that says no, or a grade.
 pub enum Answer {

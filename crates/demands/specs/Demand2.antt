@@ -15,13 +15,13 @@ use Rattle.semantics.specs.Interpretations.{Grading, graded, Interpretation, On
 use Rattle.semantics.specs.Books.{Book}
 use Rattle.book.specs.Reading.{bookOf}
 use Rattle.sheets.specs.Reading.{sheetOf}
-use Rattle.sheets.specs.Working.{verdictOf, Says}
-use Rattle.sheets.specs.declared.Verdict.{Verdict}
+use Rattle.working.specs.Working.{verdictOf, Says}
+use Rattle.working.specs.declared.Verdict.{Verdict}
 use Rattle.checker.specs.Working.{gridSize, workQuestions, workedOf, gridAfter}
 use Rattle.checker.specs.declared.Worked.the-variants.{Refused, Says as Answers}
 use Rattle.book.proofs.Reading.{accepts-valid}
 use Rattle.semantics.proofs.Interpretations as Interpretations
-use Rattle.sheets.proofs.Working as Working
+use Rattle.working.proofs.Working as Working
 use Rattle.checker.proofs.Grids as Grids
 
 -- ---- the table, "grade at element e", on a chain of N steps

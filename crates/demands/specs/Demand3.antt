@@ -30,7 +30,7 @@ use Rattle.elimination.proofs.Listed as Listed
 use Rattle.placement.proofs.Outcome as Outcome
 use Rattle.checker.specs.Working.{gridSize, workedOf}
 use Rattle.checker.specs.declared.Worked.the-variants.{Says}
-use Rattle.sheets.specs.declared.Verdict.the-variants.{Meets}
+use Rattle.working.specs.declared.Verdict.the-variants.{Meets}
 use Rattle.writer.specs.Writing.{modelBytes, writtenOf, sheetAfter}
 use Rattle.writer.specs.declared.Written.the-variants.{Refused as NotWritten, Sheet}
 use Rattle.book.proofs.Opening.{accepts-right}

@@ -11,7 +11,7 @@ use lib.Seq.{length-take-le, take-at, drop-at, drop-drop}
 use Rattle.chain.specs.Lists.{table}
 use Rattle.chain.proofs.Lists.{length-table, table-same, flatMap-same, flatMap-none, flatMap-more}
 use Rattle.semantics.specs.Interpretations.{Grading, Interpretation}
-use Rattle.sheets.specs.Grids.{gridOf}
+use Rattle.working.specs.Grids.{gridOf}
 use Rattle.grids.specs.Columns.{cellAt, HoldsGrades, rowsOf}
 
 -- the columns' rows are the grid

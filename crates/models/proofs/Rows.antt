@@ -21,11 +21,11 @@ use Rattle.gradings.specs.Gradings.{grading}
 use Rattle.gradings.specs.declared.Logic.{Logic}
 use Rattle.grades.specs.Rows.{rowAt}
 use Rattle.grades.proofs.Rows.{rows-between}
+use Rattle.working.proofs.Agreement.{Agree}
 use Rattle.sheets.specs.Layout.{linksAt, individualsAt, endAt, Indexable}
 use Rattle.sheets.specs.Writing.{sheetBytes}
 use Rattle.sheets.specs.declared.Shape.{Shape}
 use Rattle.sheets.proofs.Bounds.{few-end}
-use Rattle.sheets.proofs.Agreement.{Agree}
 use Rattle.sheets.proofs.Writing.{sheet-same, length-blocks}
 use Rattle.models.specs.Rows.{Small, modelOf, HoldsRows, nameIn, linkIn, rowsIn, namesBy, squareBy, linksBy, headBy}
 use Rattle.models.proofs.Listing.{first-found, first-missed}

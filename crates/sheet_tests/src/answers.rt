@@ -2,7 +2,7 @@
 use checker::Worked;
 use reports::tally;
 use reports::tally::Tally;
-use sheets::Verdict;
+use working::Verdict;
 
 // With number 0, kind 0 is "meets", 1 a rule with its element, 2 a membership claim, 3 a link claim, 4 a grade.
 pub struct Answer {

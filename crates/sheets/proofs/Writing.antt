@@ -12,14 +12,14 @@ use Rattle.chain.proofs.Lists.{each-at, each-table, length-table, getD-table, t
 use Rattle.semantics.specs.Interpretations.{Interpretation, OnChain}
 use Rattle.semantics.specs.Books.{Book, Valid, nameCount, roleCount, individuals, RuleModel, MeetsClaims}
 use Rattle.book.specs.Layout.{wordAt, stretch}
+use Rattle.working.specs.Working.{verdictOf}
+use Rattle.working.specs.declared.Verdict.the-variants.{Meets}
+use Rattle.working.proofs.Agreement.{Agree, agree-meets}
 use Rattle.sheets.specs.Layout.{shapeOf, namesAt, linksAt, individualsAt, endAt, nameBytes, linkBytes, individualBytes}
 use Rattle.sheets.specs.Reading.{sheetOf}
 use Rattle.sheets.specs.Opening.{SheetRight}
 use Rattle.sheets.specs.Writing.{shapeFor, headBytes, nameBody, linkBody, individualBody, sheetBytes}
-use Rattle.sheets.specs.Working.{verdictOf}
 use Rattle.sheets.specs.declared.Shape.{Shape}
-use Rattle.sheets.specs.declared.Verdict.the-variants.{Meets}
-use Rattle.sheets.proofs.Agreement.{Agree, agree-meets}
 
 -- ---- blocks of one width, one after another
 

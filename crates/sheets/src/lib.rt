@@ -1,4 +1,4 @@
-// The checks of a sheet: its head, its layout and its entries; and the verdicts that there are on one.
+// The checks of a sheet: its head, its layout and its entries.
 ghost use mathlib.Core.Path.{_≡_};
 ghost use Prim.Native.Nat.{ℕ, _≤_, _<_};
 ghost use lib.ListN.{length, getD};
@@ -20,14 +20,6 @@ pub struct Shape {
 pub enum Sheet {
     Refused(u8),
     Right(Shape),
-}
-
-// What working out a sheet says of a book. A rule is named with its lowest element.
-pub enum Verdict {
-    Meets,
-    BreaksRule(usize, usize),
-    BreaksMembership(usize),
-    BreaksLink(usize),
 }
 
 // ---- the head (check 13)

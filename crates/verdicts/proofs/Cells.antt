@@ -13,10 +13,10 @@ use Rattle.semantics.specs.Interpretations.{Grading, Interpretation, gradeAt}
 use Rattle.semantics.specs.Books.{Book, Valid, membershipIndividuals, linkIndividuals, linkRoles}
 use Rattle.sections.specs.Rules.{rulesOf, RulesRight}
 use Rattle.sections.specs.Claims.{claimCount, membershipAt, membershipsOf, MembershipsRight, linkAt, linksOf}
+use Rattle.working.specs.Working.{linkVerdict, linksVerdict, verdictBy, verdictOf}
+use Rattle.working.proofs.Working.{verdict-same}
 use Rattle.sheets.specs.Reading.{interpretation}
-use Rattle.sheets.specs.Working.{linkVerdict, linksVerdict, verdictBy, verdictOf}
 use Rattle.sheets.proofs.Reading.{everywhere}
-use Rattle.sheets.proofs.Working.{verdict-same}
 use Rattle.grids.specs.Columns.{cellAt, HoldsGrades}
 use Rattle.verdicts.specs.Cells.{verdictIn, Seated, Covered}
 

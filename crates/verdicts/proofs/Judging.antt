@@ -9,10 +9,10 @@ use Rattle.semantics.specs.Interpretations.{Interpretation}
 use Rattle.semantics.specs.Books.{Rule, Claimed, claimed?, MembershipClaim, LinkClaim}
 use Rattle.sections.specs.Rules.{ruleCount, ruleAt, rulesOf}
 use Rattle.sections.specs.Claims.{claimCount, membershipAt, membershipsOf, linkAt, linksOf}
-use Rattle.sheets.specs.Working.{judge, firstBroken, ruleVerdictAt, ruleVerdict, membershipVerdict, linkVerdict, rulesVerdict, membershipsVerdict, linksVerdict}
-use Rattle.sheets.specs.declared.Verdict.{Verdict}
-use Rattle.sheets.specs.declared.Verdict.the-variants.{Meets, BreaksRule, BreaksMembership, BreaksLink}
-use Rattle.sheets.proofs.Working.{judge-yes, judge-no, first-table}
+use Rattle.working.specs.Working.{judge, firstBroken, ruleVerdictAt, ruleVerdict, membershipVerdict, linkVerdict, rulesVerdict, membershipsVerdict, linksVerdict}
+use Rattle.working.specs.declared.Verdict.{Verdict}
+use Rattle.working.specs.declared.Verdict.the-variants.{Meets, BreaksRule, BreaksMembership, BreaksLink}
+use Rattle.working.proofs.Working.{judge-yes, judge-no, first-table}
 
 -- ---- one rule or claim
 

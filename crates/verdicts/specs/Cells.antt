@@ -7,9 +7,9 @@ use Rattle.semantics.specs.Interpretations.{Interpretation}
 use Rattle.semantics.specs.Books.{MembershipClaim, LinkClaim, membershipIndividuals, linkIndividuals, linkRoles}
 use Rattle.sections.specs.Rules.{rulesOf, RulesRight}
 use Rattle.sections.specs.Claims.{claimCount, membershipAt, membershipsOf, linkAt, linksOf}
+use Rattle.working.specs.Working.{verdictBy}
+use Rattle.working.specs.declared.Verdict.{Verdict}
 use Rattle.sheets.specs.Reading.{interpretation}
-use Rattle.sheets.specs.Working.{verdictBy}
-use Rattle.sheets.specs.declared.Verdict.{Verdict}
 use Rattle.grids.specs.Columns.{cellAt, columnCount}
 
 -- the sheet without its names, whose grades stand in the columns already

@@ -5,14 +5,14 @@ ghost use lib.ListN.{length};
 ghost use Rattle.chain.specs.Decisions.{Tells};
 ghost use Rattle.sections.specs.Rules.{ruleCount, ruleAt, rulesOf, RuleRight, RulesRight};
 ghost use Rattle.sections.specs.Claims.{claimCount, membershipAt, membershipsOf, linkAt, linksOf};
-ghost use Rattle.sheets.specs.declared.Verdict.the-variants.{Meets};
-ghost use Rattle.sheets.specs.Working.{orElse, ruleVerdict, membershipVerdict, linkVerdict, rulesVerdict, membershipsVerdict, linksVerdict};
+ghost use Rattle.working.specs.Working.{orElse, ruleVerdict, membershipVerdict, linkVerdict, rulesVerdict, membershipsVerdict, linksVerdict};
+ghost use Rattle.working.specs.declared.Verdict.the-variants.{Meets};
 ghost use Rattle.grids.specs.Columns.{cellAt, columnCount};
 ghost use Rattle.verdicts.specs.Cells.{sheet, elementIn, linkIn, verdictIn, Seated, MembershipCovered, LinkCovered, MembershipsCovered, LinksCovered, Covered};
 use grids::cell;
 use sections::claimed;
 use sections::wide;
-use sheets::Verdict;
+use working::Verdict;
 
 // ---- what stands on the sheet
 

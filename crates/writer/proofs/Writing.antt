@@ -26,8 +26,8 @@ use Rattle.sheets.specs.Writing.{shapeFor, sheetBytes}
 use Rattle.sheets.specs.declared.Shape.{Shape}
 use Rattle.sheets.specs.Opening.{SheetRight}
 use Rattle.sheets.specs.Reading.{sheetOf}
-use Rattle.sheets.specs.Working.{verdictOf}
-use Rattle.sheets.specs.declared.Verdict.the-variants.{Meets}
+use Rattle.working.specs.Working.{verdictOf}
+use Rattle.working.specs.declared.Verdict.the-variants.{Meets}
 use Rattle.sheets.proofs.Bounds.{few-end}
 use Rattle.sheets.proofs.Writing.{length-sheet, sheet-right, sheet-meets}
 use Rattle.elimination.specs.Listed.{typesIn}

@@ -10,8 +10,8 @@ use Rattle.decider.specs.declared.Decision.{Decision}
 use Rattle.decider.specs.declared.Decision.the-variants.{Refused as NotDecided, Decided}
 use Rattle.writer.specs.declared.Written.{Written}
 use Rattle.writer.specs.declared.Written.the-variants.{Refused as NotWritten, Sheet}
-use Rattle.sheets.specs.declared.Verdict.{Verdict}
-use Rattle.sheets.specs.declared.Verdict.the-variants.{Meets, BreaksRule, BreaksMembership, BreaksLink}
+use Rattle.working.specs.declared.Verdict.{Verdict}
+use Rattle.working.specs.declared.Verdict.the-variants.{Meets, BreaksRule, BreaksMembership, BreaksLink}
 use Rattle.checker.specs.declared.Worked.{Worked}
 use Rattle.checker.specs.declared.Worked.the-variants.{Refused as NotWorked, Says}
 use Rattle.checker.specs.declared.Answer.{Answer}

@@ -22,7 +22,7 @@ use Rattle.writer.specs.Writing.{writeQuestions, writtenOf, writtenNumber}
 use Rattle.writer.specs.declared.Written.{Written}
 use Rattle.writer.specs.declared.Written.the-variants.{Refused as NotWritten, Sheet}
 use Rattle.writer.proofs.Writing.{writtenNumber-is}
-use Rattle.sheets.specs.declared.Verdict.the-variants.{Meets, BreaksRule, BreaksMembership, BreaksLink}
+use Rattle.working.specs.declared.Verdict.the-variants.{Meets, BreaksRule, BreaksMembership, BreaksLink}
 use Rattle.checker.specs.Working.{workQuestions, workedOf, workedNumber}
 use Rattle.checker.specs.Asking.{gradeQuestions, linkQuestions, gradeAnswer, linkAnswer, answerNumber}
 use Rattle.checker.specs.declared.Worked.{Worked}

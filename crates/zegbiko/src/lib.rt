@@ -13,7 +13,7 @@ use book::Opened;
 use checker::Answer;
 use checker::Worked;
 use decider::Decision;
-use sheets::Verdict;
+use working::Verdict;
 use writer::Written;
 
 // In each struct the refusal is 0 if the call is answered, and else the other fields are 0.

@@ -6,9 +6,9 @@ use native.Mathlib.Omega.{arith}
 use borrow.Author.Needs.{needs}
 use Rattle.chain.proofs.Decisions.{told-yes, told-no}
 use Rattle.sections.specs.Claims.{claimCount, linkAt}
-use Rattle.sheets.proofs.Working.{first-start, first-more, first-end, first-found}
-use Rattle.sheets.specs.declared.Verdict.the-variants.{Meets}
-use Rattle.sheets.specs.Working.{firstBroken, linkVerdict}
+use Rattle.working.specs.Working.{firstBroken, linkVerdict}
+use Rattle.working.specs.declared.Verdict.the-variants.{Meets}
+use Rattle.working.proofs.Working.{first-start, first-more, first-end, first-found}
 use Rattle.verdicts.specs.Cells.{sheet}
 use Rattle.verdicts.proofs.Judging.{links-first}
 use Rattle.verdicts.proofs.links_verdict.Statement.{statement}

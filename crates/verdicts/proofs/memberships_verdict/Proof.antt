@@ -6,9 +6,9 @@ use native.Mathlib.Omega.{arith}
 use borrow.Author.Needs.{needs}
 use Rattle.chain.proofs.Decisions.{told-yes, told-no}
 use Rattle.sections.specs.Claims.{claimCount, membershipAt}
-use Rattle.sheets.proofs.Working.{first-start, first-more, first-end, first-found}
-use Rattle.sheets.specs.declared.Verdict.the-variants.{Meets}
-use Rattle.sheets.specs.Working.{firstBroken, membershipVerdict}
+use Rattle.working.specs.Working.{firstBroken, membershipVerdict}
+use Rattle.working.specs.declared.Verdict.the-variants.{Meets}
+use Rattle.working.proofs.Working.{first-start, first-more, first-end, first-found}
 use Rattle.grids.specs.Columns.{cellAt}
 use Rattle.verdicts.specs.Cells.{elementIn}
 use Rattle.verdicts.proofs.Judging.{memberships-first}

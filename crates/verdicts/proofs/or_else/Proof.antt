@@ -2,7 +2,7 @@
 -- Assumes nothing.
 use mathlib.Core.Path.{sym}
 use borrow.Author.Needs.{needs}
-use Rattle.sheets.proofs.Working.{else-first, else-second}
+use Rattle.working.proofs.Working.{else-first, else-second}
 use Rattle.verdicts.proofs.or_else.Statement.{statement}
 use Rattle.verdicts.proofs.or_else.Tie as tie
 

@@ -5,9 +5,9 @@ use Prim.Native.Nat.{_≤_, _-_}
 use native.Mathlib.Omega.{arith}
 use borrow.Author.Needs.{needs}
 use Rattle.sections.specs.Rules.{ruleAt}
-use Rattle.sheets.proofs.Working.{first-start, first-more, first-end, first-found, rule-broken}
-use Rattle.sheets.specs.declared.Verdict.the-variants.{Meets}
-use Rattle.sheets.specs.Working.{firstBroken, ruleVerdictAt, ruleVerdict}
+use Rattle.working.specs.Working.{firstBroken, ruleVerdictAt, ruleVerdict}
+use Rattle.working.specs.declared.Verdict.the-variants.{Meets}
+use Rattle.working.proofs.Working.{first-start, first-more, first-end, first-found, rule-broken}
 use Rattle.grids.specs.Columns.{cellAt}
 use Rattle.verdicts.proofs.Judging.{rule-met, rule-unmet}
 use Rattle.verdicts.proofs.rule_verdict.Statement.{statement}

@@ -6,9 +6,9 @@ use native.Mathlib.Omega.{arith}
 use borrow.Author.Needs.{needs}
 use Rattle.chain.proofs.Decisions.{told-yes, told-no}
 use Rattle.sections.specs.Rules.{ruleCount, ruleAt}
-use Rattle.sheets.proofs.Working.{first-start, first-more, first-end, first-found}
-use Rattle.sheets.specs.declared.Verdict.the-variants.{Meets}
-use Rattle.sheets.specs.Working.{firstBroken, ruleVerdict}
+use Rattle.working.specs.Working.{firstBroken, ruleVerdict}
+use Rattle.working.specs.declared.Verdict.the-variants.{Meets}
+use Rattle.working.proofs.Working.{first-start, first-more, first-end, first-found}
 use Rattle.grids.specs.Columns.{cellAt}
 use Rattle.verdicts.proofs.Judging.{rules-first}
 use Rattle.verdicts.proofs.rules_verdict.Statement.{statement}

@@ -9,8 +9,8 @@ use lib.ListN.{length, getD}
 use Rattle.chain.specs.Lists.{Each}
 use Rattle.semantics.specs.Interpretations.{Grading, Interpretation, gradeAt}
 use Rattle.semantics.specs.Books.{Rule, at-least, MembershipClaim, LinkClaim, Book, claimed?, MeetsRule, MeetsMembership, MeetsLink}
-use Rattle.sheets.specs.declared.Verdict.{Verdict}
-use Rattle.sheets.specs.declared.Verdict.the-variants.{Meets, BreaksRule, BreaksMembership, BreaksLink}
+use Rattle.working.specs.declared.Verdict.{Verdict}
+use Rattle.working.specs.declared.Verdict.the-variants.{Meets, BreaksRule, BreaksMembership, BreaksLink}
 
 -- ---- verdicts in order
 

@@ -12,9 +12,9 @@ use Rattle.semantics.specs.Terms.{Term, name, not, and, or, some, all, top, bot
 use Rattle.semantics.specs.Interpretations.{Grading, Interpretation, WellFormed, OnChain, atElements, gradeAt}
 use Rattle.semantics.specs.Books.{Rule, MembershipClaim, LinkClaim, Book, Valid, RuleInRange, TermInRange, nameAbove, roleAbove, linkRoles, membershipIndividuals, linkIndividuals, nameCount, roleCount, individuals, MeetsRule, MeetsMembership, MeetsLink, RuleModel, MeetsClaims}
 use Rattle.semantics.proofs.Interpretations.{gradeAt-local, gradeAt-unique}
-use Rattle.sheets.specs.Working.{verdictOf}
-use Rattle.sheets.specs.declared.Verdict.the-variants.{Meets}
-use Rattle.sheets.proofs.Working.{says-verdict}
+use Rattle.working.specs.Working.{verdictOf}
+use Rattle.working.specs.declared.Verdict.the-variants.{Meets}
+use Rattle.working.proofs.Working.{says-verdict}
 
 -- what M says of A names, R roles and I individuals, K says too
 pub record Agree (A R I : ℕ) (M K : Interpretation) : Type 0 where

@@ -1,0 +1,9 @@
+// The verdicts that there are on a sheet.
+
+// What working out a sheet says of a book. A rule is named with its lowest element.
+pub enum Verdict {
+    Meets,
+    BreaksRule(usize, usize),
+    BreaksMembership(usize),
+    BreaksLink(usize),
+}
