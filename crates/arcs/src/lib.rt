@@ -14,6 +14,7 @@ use boxes::inside;
 use boxes::put_bound;
 use domains::leap;
 use domains::note_gaps;
+use encoding::wide;
 use gradings::Logic;
 use gradings::bound;
 use gradings::through;
@@ -21,7 +22,6 @@ use network::Constraint;
 use network::between;
 use network::constraint_at;
 use network::row_at;
-use sections::wide;
 
 // ---- the box in which the rows lie that are compatible with a row
 

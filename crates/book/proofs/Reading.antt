@@ -4,8 +4,9 @@ use mathlib.Core.Path.{_≡_, sym, ap, _∙_}
 use mathlib.Core.List.{List}
 use Prim.Native.Nat.{ℕ, _-_, _/_, _≤_, max}
 use native.Mathlib.Omega.{arith}
-use lib.ListN.{length, length-take, length-drop}
+use lib.ListN.{length}
 use Rattle.chain.specs.Lists.{highest}
+use Rattle.encoding.proofs.Stretches.{length-stretch}
 use Rattle.semantics.specs.Books.{Book, Valid, nameAbove, roleAbove, linkRoles, membershipIndividuals, linkIndividuals, nameCount, roleCount, individuals, RuleInRange, TermInRange}
 use Rattle.semantics.specs.Candidates.{NamesApart}
 use Rattle.semantics.proofs.Interpretations.{graded-well-formed}
@@ -14,7 +15,7 @@ use Rattle.sections.specs.Claims.{membershipsOf, linksOf}
 use Rattle.sections.proofs.Terms.{length-terms, terms-ordered, terms-apart, names-few, roles-few}
 use Rattle.sections.proofs.Rules.{rules-each}
 use Rattle.sections.proofs.Claims.{memberships-each, individuals-few, linkRoles-few}
-use Rattle.book.specs.Layout.{sectionsOf, CountsRight, stretch, termBytes, ruleBytes, membershipBytes, linkBytes, termsIn}
+use Rattle.book.specs.Layout.{sectionsOf, CountsRight, termBytes, ruleBytes, membershipBytes, linkBytes, termsIn}
 use Rattle.book.specs.Reading.{bookAt, bookOf}
 use Rattle.book.specs.Opening.{Accepts, Right}
 use Rattle.book.specs.declared.Sections.{Sections}
@@ -28,9 +29,6 @@ sections-few b h = omega arith
 sections-short : (b : List ℕ) → CountsRight b → sectionsOf b .rules - sectionsOf b .terms ≤ 192
 unfolding sectionsOf
 sections-short b h = omega arith
-
-pub length-stretch : (b : List ℕ) (from to : ℕ) → to ≤ length b → length (stretch b from to) ≡ to - from
-length-stretch b from to h = rw (length-take, length-drop) (omega arith)
 
 module _ (b : List ℕ) (s : Sections) (ok : Right b s) where
   -- the sections' stretches are the book's

@@ -1,25 +1,26 @@
 -- Laws of writing: an accepted book's bytes are those written for its reading, so no other accepted book is read as it is.
 -- Assumes nothing.
 use mathlib.Core.Path.{_≡_, refl, sym, ap, _∙_}
-use mathlib.Core.List.{List, [], _∷_, _++_, flatMap}
+use mathlib.Core.List.{List, [], _∷_, flatMap}
 use Prim.Native.Nat.{ℕ, zero, suc, _+_, _*_, _≤_, _<_}
-use native.Mathlib.Nat.{add-zero, add-sub-cancel-left, mul-add-div-right, mul-add-mod-self-right, div-eq-of-lt, mod-eq-of-lt}
 use native.Mathlib.Omega.{arith}
 use lib.ListN.{length, getD, take, drop}
 use lib.Seq.{take-all, take-add, drop-drop}
 use Rattle.chain.specs.Lists.{table}
 use Rattle.chain.proofs.Blocks.{take-table, blocks-front}
+use Rattle.encoding.specs.Words.{Bytes, wordAt, wordBytes}
+use Rattle.encoding.proofs.Words.{word-written}
+use Rattle.encoding.proofs.Stretches.{stretch-length, stretch-next}
 use Rattle.sections.specs.Terms.{termOf, Described}
 use Rattle.sections.specs.Claims.{senseOf, senseAt}
 use Rattle.sections.proofs.Terms.{terms-bytes}
 use Rattle.sections.proofs.Rules.{rules-bytes}
 use Rattle.sections.proofs.Claims.{memberships-bytes, links-bytes}
-use Rattle.book.specs.Layout.{wordAt, countAt, sectionsOf, stretch, termBytes, ruleBytes, membershipBytes, linkBytes}
+use Rattle.book.specs.Layout.{countAt, sectionsOf, termBytes, ruleBytes, membershipBytes, linkBytes}
 use Rattle.book.specs.Reading.{bookOf}
 use Rattle.book.specs.Opening.{Accepts}
-use Rattle.book.specs.Writing.{Bytes, wordBytes, termBytesOf, ruleBytesOf, senseByte, membershipBytesOf, linkBytesOf, bytesOf}
+use Rattle.book.specs.Writing.{termBytesOf, ruleBytesOf, senseByte, membershipBytesOf, linkBytesOf, bytesOf}
 use Rattle.book.proofs.Opening.{accepts-right}
-use Rattle.book.proofs.Reading.{length-stretch}
 
 -- ---- the bodies: each record is written as its bytes
 
@@ -34,28 +35,13 @@ sense-written (suc (suc k)) h = absurd (omega arith)
 -- ---- the contents
 
 module _ (b : List ℕ) (bytes : Bytes b) where
-  word-written : (at : ℕ) → at + 2 ≤ length b → wordBytes (wordAt b at) ≡ take 2 (drop at b)
-  unfolding wordAt table
-  word-written at h =
-      let low = bytes (at + 1) in
-      rw (take-table 0 b at 2, add-zero, mul-add-div-right {m = 256} (omega arith), mul-add-mod-self-right, div-eq-of-lt low, mod-eq-of-lt low, add-zero)
-
   -- byte 0, byte 1, and eight two-byte numbers
   contents-written : 18 ≤ length b → getD b 0 0 ∷ getD b 1 0 ∷ flatMap wordBytes (table (λ k. wordAt b (2 + 2 * k)) 8) ≡ take 18 b
   unfolding table
   contents-written h =
       let words : flatMap wordBytes (table (λ k. wordAt b (2 + 2 * k)) 8) ≡ take 16 (drop 2 b) =
-      blocks-front wordBytes 2 8 (λ k. wordAt b (2 + 2 * k)) (drop 2 b) (λ i l. word-written (2 + 2 * i) (omega arith) ∙ rw drop-drop) in
+      blocks-front wordBytes 2 8 (λ k. wordAt b (2 + 2 * k)) (drop 2 b) (λ i l. word-written b bytes (2 + 2 * i) (omega arith) ∙ rw drop-drop) in
       rw (words, take-add 2 16 b, take-table 0 b 0 2 (omega arith))
-
--- ---- the stretches
-
-module _ (b : List ℕ) (from n : ℕ) where
-  stretch-length : from + n ≤ length b → length (stretch b from (from + n)) ≡ n
-  stretch-length h = length-stretch b from (from + n) h ∙ add-sub-cancel-left from n
-
-  stretch-next : take (from + n) b ≡ take from b ++ stretch b from (from + n)
-  stretch-next = rw add-sub-cancel-left (take-add from n b)
 
 -- ---- the book
 

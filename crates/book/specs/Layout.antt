@@ -4,13 +4,11 @@ use mathlib.Core.Path.{_≡_}
 use mathlib.Core.List.{List}
 use Prim.Native.Nat.{ℕ, _+_, _*_, _-_, _/_, _≤_}
 use native.Mathlib.Decide.{ℕ-discrete, decLe}
-use lib.ListN.{length, getD, take, drop}
+use lib.ListN.{length, getD}
 use Rattle.chain.specs.Decisions.{dec-and}
+use Rattle.encoding.specs.Words.{wordAt}
+use Rattle.encoding.specs.Stretches.{stretch}
 use Rattle.book.specs.declared.Sections.{Sections}
-
--- "two-byte numbers have the high byte first"
-unfoldable pub wordAt : List ℕ → ℕ → ℕ
-wordAt b at = getD b at 0 * 256 + getD b (at + 1) 0
 
 module _ (b : List ℕ) where
   -- "byte 0 is the edition, 1; byte 1 is N"
@@ -92,20 +90,17 @@ module _ (b : List ℕ) where
   abbrev pub InOrder : Sections → Type 0
   InOrder s = (s .terms ≤ s .rules) × (s .rules ≤ s .memberships) × (s .memberships ≤ s .links) × (s .links ≤ s .end) × (s .end ≤ length b)
 
-  abbrev pub stretch : (from to : ℕ) → List ℕ
-  stretch from to = take (to - from) (drop from b)
-
   abbrev pub termBytes : Sections → List ℕ
-  termBytes s = stretch (s .terms) (s .rules)
+  termBytes s = stretch b (s .terms) (s .rules)
 
   abbrev pub ruleBytes : Sections → List ℕ
-  ruleBytes s = stretch (s .rules) (s .memberships)
+  ruleBytes s = stretch b (s .rules) (s .memberships)
 
   abbrev pub membershipBytes : Sections → List ℕ
-  membershipBytes s = stretch (s .memberships) (s .links)
+  membershipBytes s = stretch b (s .memberships) (s .links)
 
   abbrev pub linkBytes : Sections → List ℕ
-  linkBytes s = stretch (s .links) (s .end)
+  linkBytes s = stretch b (s .links) (s .end)
 
 -- the number of terms
 abbrev pub termsIn : Sections → ℕ

@@ -1,19 +1,12 @@
 -- From an abstract book back to its bytes: document 01, "The book", read the other way.
 -- Assumes nothing.
 use mathlib.Core.List.{List, [], _∷_, _++_, flatMap}
-use Prim.Native.Nat.{ℕ, _+_, _*_, _/_, _%_, _<_}
-use lib.ListN.{length, getD}
+use Prim.Native.Nat.{ℕ, _+_, _*_}
+use lib.ListN.{length}
+use Rattle.encoding.specs.Words.{wordBytes}
 use Rattle.semantics.specs.Terms.{Term}
 use Rattle.semantics.specs.Books.{Rule, Sense, at-least, at-most, MembershipClaim, LinkClaim, Book}
 use Rattle.sections.specs.Terms.{kindByte, aByte, bByte}
-
--- the numbers of a list of bytes
-abbrev pub Bytes : List ℕ → Type 0
-Bytes b = (i : ℕ) → getD b i 0 < 256
-
--- "two-byte numbers have the high byte first"
-abbrev pub wordBytes : ℕ → List ℕ
-wordBytes v = v / 256 ∷ v % 256 ∷ []
 
 -- ---- the records of the bodies
 

@@ -1,19 +1,17 @@
 // Opens a book: its head and layout are checked here, each body by its section's own checker.
 ghost use mathlib.Core.Path.{_≡_};
-ghost use Prim.Native.Nat.{_+_, _*_, _≤_, _<_};
+ghost use Prim.Native.Nat.{_≤_};
 ghost use lib.ListN.{length};
-ghost use lib.Seq.{sets};
 ghost use Rattle.chain.specs.Decisions.{Tells};
 ghost use Rattle.chain.specs.Questions.{firstNo};
 ghost use Rattle.sections.specs.Terms.{termsOf};
 ghost use Rattle.gradings.specs.Gradings.{grading};
-ghost use Rattle.book.specs.Layout.{wordAt, sectionsOf, LengthRight, StepsRight, CountsRight, LaidOut, InOrder, termBytes, ruleBytes, membershipBytes, linkBytes, termsIn};
+ghost use Rattle.book.specs.Layout.{sectionsOf, LengthRight, StepsRight, CountsRight, LaidOut, InOrder, termBytes, ruleBytes, membershipBytes, linkBytes, termsIn};
 ghost use Rattle.book.specs.Reading.{bookOf, countsOf};
-ghost use Rattle.book.specs.Writing.{wordBytes};
 ghost use Rattle.book.specs.Opening.{bodyQuestions, Right, opened, openedOf, countedOf};
+use encoding::word;
 use gradings::Logic;
 use powers::Power;
-use sections::wide;
 
 // The book's own N, which its checks go by, where each body begins, and where the last ends.
 pub struct Sections {
@@ -42,23 +40,6 @@ pub enum Opened {
 pub enum Counted {
     Refused(u8),
     Candidates(u64),
-}
-
-// A two-byte number, the high byte first.
-pub fn word(b: &[u8], at: usize) -> usize
-    requires { ⌜ at + 1 < length (now b) ⌝ }
-    ensures { λ r. ⌜ (r ≡ wordAt (now (b .entry)) at) × (r < 65536) ⌝ }
-{
-    wide(b[at]) * 256 + wide(b[at + 1])
-}
-
-// Writes one.
-pub fn write_word(b: &mut [u8], at: usize, v: u16)
-    requires { ⌜ at + 1 < length (now b) ⌝ }
-    ensures { λ _. ⌜ now (b .exit) ≡ sets (now (b .entry)) at (wordBytes v) ⌝ }
-{
-    b[at] = (v / 256) as u8;
-    b[at + 1] = (v % 256) as u8;
 }
 
 fn length_right(b: &[u8]) -> bool

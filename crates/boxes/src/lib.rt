@@ -3,8 +3,8 @@ ghost use Prim.Native.Nat.{ℕ, _+_, _*_, _<_, _≤_};
 ghost use lib.ListN.{length};
 ghost use Rattle.chain.specs.Decisions.{Tells};
 ghost use Rattle.boxes.specs.Boxes.{Within, boundCount, boundAt, Inside, Narrowed};
+use encoding::wide;
 use gradings::Logic;
-use sections::wide;
 
 // The grades that a row may have in a column: from `low` to `high`.
 pub struct Bound {

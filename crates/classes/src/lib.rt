@@ -8,12 +8,12 @@ ghost use Rattle.network.specs.Network.{Wired};
 ghost use Rattle.domains.specs.Consistent.{Problem};
 ghost use Rattle.classes.specs.Reads.{readAt, ListRead, Read, More, Listed};
 ghost use Rattle.classes.specs.Classes.{Alike, Matched, ThinnedAt, Thinned};
+use encoding::wide;
 use gradings::Logic;
 use network::Constraint;
 use network::between;
 use network::constraint_at;
 use network::row_at;
-use sections::wide;
 
 // ---- which grades are read
 

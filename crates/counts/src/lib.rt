@@ -9,9 +9,9 @@ ghost use Rattle.semantics.specs.Candidates.{placesBefore, candidates};
 ghost use Rattle.sections.specs.Terms.{termAt, termsOf, termCount, TermsRight};
 ghost use Rattle.sections.specs.Claims.{membershipsOf, linksOf};
 ghost use Rattle.counts.specs.Columns.{column};
+use encoding::wide;
 use powers::Power;
 use sections::is_place;
-use sections::wide;
 
 // ---- places and candidates
 

@@ -13,12 +13,12 @@ use Rattle.chain.specs.Lists.{Mem, index}
 use Rattle.chain.proofs.Lists.{length-table, getD-table, ascending-same}
 use Rattle.chain.specs.Questions.{firstNo}
 use Rattle.chain.proofs.Questions.{first-none-append, first-yes, first-empty}
+use Rattle.encoding.specs.Words.{wordAt, wordBytes}
 use Rattle.semantics.specs.Books.{Book, individuals}
 use Rattle.semantics.specs.Candidates.{candidates}
-use Rattle.book.specs.Layout.{wordAt, sectionsOf}
+use Rattle.book.specs.Layout.{sectionsOf}
 use Rattle.book.specs.Reading.{bookOf}
 use Rattle.book.specs.Opening.{Accepts, bookQuestions, fewCandidates?}
-use Rattle.book.specs.Writing.{wordBytes}
 use Rattle.book.proofs.Opening.{accepts-right}
 use Rattle.book.proofs.Reading.{right-individuals}
 use Rattle.elimination.specs.Listed.{typesIn}

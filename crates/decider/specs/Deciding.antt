@@ -10,13 +10,12 @@ use native.Mathlib.Decide.{decLe}
 use lib.ListN.{length, take, drop}
 use Rattle.chain.specs.Lists.{table, index}
 use Rattle.chain.specs.Questions.{Question, ask, firstNo}
+use Rattle.encoding.specs.Words.{wordAt, wordBytes}
 use Rattle.semantics.specs.Interpretations.{Interpretation}
 use Rattle.semantics.specs.Books.{Book, individuals}
 use Rattle.semantics.specs.Candidates.{candidates}
 use Rattle.book.specs.Reading.{bookOf}
-use Rattle.book.specs.Layout.{wordAt}
 use Rattle.book.specs.Opening.{Accepts, candidateQuestions}
-use Rattle.book.specs.Writing.{wordBytes}
 use Rattle.elimination.specs.Listed.{typesIn}
 use Rattle.elimination.specs.Marks.{marksOf, marked}
 use Rattle.placement.specs.Outcome.{seat, survivorsOf, placement, outcome}

@@ -3,11 +3,11 @@ ghost use mathlib.Core.Path.{_≡_};
 ghost use mathlib.Core.List.{_++_, flatMap};
 ghost use Prim.Native.Nat.{_*_, _<_, _≤_};
 ghost use lib.ListN.{length, take, drop};
+ghost use Rattle.encoding.specs.Words.{wordBytes};
 ghost use Rattle.semantics.specs.Books.{individuals as individualsOf};
 ghost use Rattle.semantics.specs.Candidates.{candidates};
 ghost use Rattle.book.specs.Opening.{Right, countedOf};
 ghost use Rattle.book.specs.Reading.{bookOf};
-ghost use Rattle.book.specs.Writing.{wordBytes};
 ghost use Rattle.book.specs.declared.Counted.the-variants.{Candidates};
 ghost use Rattle.elimination.specs.Marks.{marked};
 ghost use Rattle.placement.specs.Outcome.{survivorsOf, placement as placementOf, outcome};
@@ -35,7 +35,7 @@ fn write_placement(seats: &[u16], placement: &mut [u8])
     let count = seats.len();
     let mut i = 0;
     while i < count {
-        book::write_word(placement, 2 * i, seats[i]);
+        encoding::write_word(placement, 2 * i, seats[i]);
         i += 1;
     }
 }

@@ -9,6 +9,7 @@ use Rattle.chain.specs.Questions.{firstNo}
 use Rattle.chain.specs.Search.{first, rank}
 use Rattle.chain.specs.Lists.{table, highest, from, keep, each?}
 use Rattle.chain.specs.Digits.{digit}
+use Rattle.encoding.specs.Words.{wordAt}
 use Rattle.semantics.specs.Terms.{value, deep}
 use Rattle.semantics.specs.Books.{Book, individuals}
 use Rattle.semantics.specs.Candidates.{bearer, opens?, places, homeAs, home, slot, candidates, gradeIn}
@@ -17,7 +18,7 @@ use Rattle.sections.specs.Terms.{termsRight?, termsOf}
 use Rattle.sections.specs.Rules.{rulesRight?, rulesOf}
 use Rattle.sections.specs.Claims.{membershipsRight?, linksRight?, membershipsOf, linksOf}
 use Rattle.grades.specs.Rows.{rowOf}
-use Rattle.book.specs.Layout.{wordAt, sectionsOf, lengthRight?, editionRight?, stepsRight?, countsRight?, laidOut?}
+use Rattle.book.specs.Layout.{sectionsOf, lengthRight?, editionRight?, stepsRight?, countsRight?, laidOut?}
 use Rattle.book.specs.Reading.{bookOf}
 use Rattle.book.specs.Opening.{fewCandidates?, candidateQuestions}
 use Rattle.elimination.specs.Survivors.{fits?, settle, survivors}

@@ -15,10 +15,11 @@ use Rattle.semantics.specs.Candidates.{bearer, opens?, places, homeAs, home, sl
 use Rattle.semantics.specs.Links.{linkBetween, link}
 use Rattle.chain.specs.Decisions.{says}
 use Rattle.chain.specs.Questions.{firstNo}
+use Rattle.encoding.specs.Words.{wordAt}
 use Rattle.sections.specs.Terms.{termsRight?, termsOf}
 use Rattle.sections.specs.Rules.{rulesRight?, rulesOf}
 use Rattle.sections.specs.Claims.{membershipsRight?, linksRight?, membershipsOf, linksOf}
-use Rattle.book.specs.Layout.{wordAt, sectionsOf, lengthRight?, editionRight?, stepsRight?, countsRight?, laidOut?}
+use Rattle.book.specs.Layout.{sectionsOf, lengthRight?, editionRight?, stepsRight?, countsRight?, laidOut?}
 use Rattle.book.specs.Reading.{bookOf}
 use Rattle.book.specs.Opening.{bookQuestions, fewCandidates?}
 use Rattle.decider.specs.Deciding.{decisionOf}

@@ -4,7 +4,7 @@ ghost use lib.ListN.{length};
 ghost use Rattle.chain.specs.Decisions.{Tells};
 ghost use Rattle.domains.specs.Tables.{Lacks, Vain};
 ghost use Rattle.domains.specs.Gaps.{GapAt, Leap, Gaps, SameAllowed, NotedAll};
-use sections::wide;
+use encoding::wide;
 
 // ---- the table
 

@@ -10,6 +10,7 @@ ghost use Rattle.grades.specs.Rows.{entry};
 ghost use Rattle.network.specs.Network.{Wired};
 ghost use Rattle.domains.specs.Consistent.{Problem};
 ghost use Rattle.filter.specs.Filter.{Task, ClaimsBelow, MembershipBy, MembershipsBy, Admits, Column, Entered, Filtered};
+use encoding::wide;
 use grades::fill_row;
 use gradings::Logic;
 use network::all_met;
@@ -17,7 +18,6 @@ use network::between;
 use network::put_row;
 use network::row_at;
 use sections::claimed;
-use sections::wide;
 
 // ---- by the grades of a candidate, and its row of slots
 

@@ -13,11 +13,11 @@ ghost use Rattle.sheets.specs.Writing.{shapeFor, sheetBytes};
 ghost use Rattle.elimination.specs.Marks.{marked};
 ghost use Rattle.models.specs.Listing.{Lists};
 ghost use Rattle.models.specs.Rows.{Small, modelOf, HoldsRows, nameIn, linkIn, rowsIn, namesBy, squareBy, linksBy, headBy};
-use book::write_word;
+use encoding::wide;
+use encoding::write_word;
 use grades::put_row;
 use grades::row_at;
 use gradings::Logic;
-use sections::wide;
 use sheets::Shape;
 
 // ---- the marked candidates

@@ -12,9 +12,9 @@ ghost use Rattle.network.specs.Rows.{rowAt};
 ghost use Rattle.network.specs.Levels.{ClaimsRanged, LevelsOf};
 ghost use Rattle.network.specs.Constraints.{constraintCount, constraintAt, Met, AllMet, AllRight};
 ghost use Rattle.network.specs.Network.{between as betweenOf, Laid, NetworkOf, SlotAdded, Added, Connected};
+use encoding::wide;
 use gradings::Logic;
 use gradings::permits;
-use sections::wide;
 use slots::put_slot_row;
 
 // What a slot of this kind, 4 "some" or 5 "all", asks through a link of this level: of the columns of the two rows that have its own grade and its

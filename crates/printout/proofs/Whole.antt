@@ -10,9 +10,9 @@ use native.Mathlib.Omega.{arith}
 use lib.ListN.{length}
 use Rattle.chain.specs.Lists.{keep, from}
 use Rattle.chain.proofs.Lists.{flatMap-same}
+use Rattle.encoding.specs.Words.{wordAt}
 use Rattle.semantics.specs.Books.{Book, individuals}
 use Rattle.grades.specs.Rows.{rowOf}
-use Rattle.book.specs.Layout.{wordAt}
 use Rattle.elimination.specs.Marks.{marked?}
 use Rattle.placement.specs.Outcome.{seat, survivorsOf, placement, outcome}
 use Rattle.printout.specs.Lines.{outcomeLine, typeLines, individualLine, individualLines}

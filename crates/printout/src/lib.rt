@@ -8,7 +8,7 @@ ghost use Rattle.chain.specs.Lists.{from, keep};
 ghost use Rattle.gradings.specs.Gradings.{grading};
 ghost use Rattle.sections.specs.Terms.{termCount, termsOf, TermsRight};
 ghost use Rattle.grades.specs.Rows.{rowOf};
-ghost use Rattle.book.specs.Layout.{wordAt};
+ghost use Rattle.encoding.specs.Words.{wordAt};
 ghost use Rattle.elimination.specs.Marks.{marked?};
 ghost use Rattle.printout.specs.Text.{digitByte, decimal, Added};
 ghost use Rattle.printout.specs.Lines.{newline, refusedLine, outcomeLine, spaced, typeLine, typeLines, individualLine, individualLines};
@@ -213,7 +213,7 @@ pub fn individual_lines(out: &mut [u8], placement: &[u8], count: usize) -> usize
     let mut end = 0;
     let mut j = 0;
     while j < count {
-        end = individual_line(out, end, j, book::word(placement, 2 * j));
+        end = individual_line(out, end, j, encoding::word(placement, 2 * j));
         j += 1;
     }
     end

@@ -1,5 +1,4 @@
 // The sections of a book, each checked over its own stretch of bytes.
-ghost use mathlib.Core.Path.{_≡_};
 ghost use Prim.Native.Nat.{ℕ, _<_};
 ghost use Rattle.chain.specs.Decisions.{Tells};
 ghost use Rattle.semantics.specs.Books.{Claimed};
@@ -7,12 +6,7 @@ ghost use Rattle.semantics.specs.Candidates.{place, IsPlace};
 ghost use Rattle.sections.specs.Terms.{termCount, termAt, Described, SameName, TermRight, TermsRight};
 ghost use Rattle.sections.specs.Rules.{ruleCount, RuleRight, RulesRight};
 ghost use Rattle.sections.specs.Claims.{senseOf, claimCount, MembershipRight, MembershipsRight, LinkRight, LinksRight};
-// A byte as a number to count and index with.
-pub fn wide(x: u8) -> usize
-    ensures { λ r. ⌜ (r ≡ x) × (r < 256) ⌝ }
-{
-    x as usize
-}
+use encoding::wide;
 
 // ---- terms: three bytes each (check 6)
 

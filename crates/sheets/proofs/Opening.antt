@@ -8,7 +8,7 @@ use native.Mathlib.Omega.{arith}
 use lib.ListN.{length}
 use Rattle.chain.specs.Questions.{firstNo}
 use Rattle.chain.proofs.Questions.{first-empty, first-yes, first-no, first-none}
-use Rattle.book.proofs.Reading.{length-stretch}
+use Rattle.encoding.proofs.Stretches.{length-stretch}
 use Rattle.sheets.specs.Layout.{shapeOf, namesAt, linksAt, individualsAt, endAt, nameBytes, linkBytes, individualBytes, HeadRight, SheetLaidOut, EntriesRight}
 use Rattle.sheets.specs.Opening.{sheetQuestions, SheetRight, sheetBy, sheetOpened, sheetNumber}
 use Rattle.sheets.specs.declared.Shape.{Shape}

@@ -9,9 +9,10 @@ use lib.ListN.{length, getD, length-append, List·getD-append}
 use lib.Seq.{take-at, drop-at, take-all, getD-append-add}
 use Rattle.chain.specs.Lists.{Each, table, from}
 use Rattle.chain.proofs.Lists.{each-at, each-table, length-table, getD-table, table-same, flatMap-same}
+use Rattle.encoding.specs.Words.{wordAt}
+use Rattle.encoding.specs.Stretches.{stretch}
 use Rattle.semantics.specs.Interpretations.{Interpretation, OnChain}
 use Rattle.semantics.specs.Books.{Book, Valid, nameCount, roleCount, individuals, RuleModel, MeetsClaims}
-use Rattle.book.specs.Layout.{wordAt, stretch}
 use Rattle.working.specs.Working.{verdictOf}
 use Rattle.working.specs.declared.Verdict.the-variants.{Meets}
 use Rattle.working.proofs.Agreement.{Agree, agree-meets}

@@ -7,7 +7,8 @@ use native.Mathlib.Decide.{ℕ-discrete, decLe, decLt}
 use lib.ListN.{length, getD}
 use Rattle.chain.specs.Decisions.{dec-and}
 use Rattle.chain.specs.Search.{all?}
-use Rattle.book.specs.Layout.{wordAt, stretch}
+use Rattle.encoding.specs.Words.{wordAt}
+use Rattle.encoding.specs.Stretches.{stretch}
 use Rattle.sheets.specs.declared.Shape.{Shape}
 
 module _ (b : List ℕ) where

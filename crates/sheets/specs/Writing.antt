@@ -3,8 +3,8 @@
 use mathlib.Core.List.{List, [], _∷_, _++_, flatMap}
 use Prim.Native.Nat.{ℕ}
 use Rattle.chain.specs.Lists.{table, from}
+use Rattle.encoding.specs.Words.{wordBytes}
 use Rattle.semantics.specs.Interpretations.{Interpretation}
-use Rattle.book.specs.Writing.{wordBytes}
 use Rattle.sheets.specs.Layout.{namesAt, linksAt, individualsAt}
 use Rattle.sheets.specs.declared.Shape.{Shape}
 

@@ -5,8 +5,8 @@ ghost use lib.ListN.{length, getD};
 ghost use Rattle.chain.specs.Decisions.{Tells};
 ghost use Rattle.sheets.specs.Layout.{shapeOf, linksAt, individualsAt, endAt, Indexable, CountsAgree, HeadRight, SheetLaidOut, EntriesRight};
 ghost use Rattle.sheets.specs.Opening.{sheetOpened};
-use book::word;
-use sections::wide;
+use encoding::wide;
+use encoding::word;
 
 // The counts of a sheet: elements, names, roles, individuals.
 pub struct Shape {

@@ -9,9 +9,9 @@ ghost use Rattle.working.specs.Working.{orElse, ruleVerdict, membershipVerdict,
 ghost use Rattle.working.specs.declared.Verdict.the-variants.{Meets};
 ghost use Rattle.grids.specs.Columns.{cellAt, columnCount};
 ghost use Rattle.verdicts.specs.Cells.{sheet, elementIn, linkIn, verdictIn, Seated, MembershipCovered, LinkCovered, MembershipsCovered, LinksCovered, Covered};
+use encoding::wide;
 use grids::cell;
 use sections::claimed;
-use sections::wide;
 use working::Verdict;
 
 // ---- what stands on the sheet

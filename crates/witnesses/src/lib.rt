@@ -13,11 +13,11 @@ ghost use Rattle.witnesses.specs.Search.{AllowsAt, AllowsRow, Boxes, Leg
 use boxes::Bound;
 use boxes::inside;
 use boxes::put_bound;
+use encoding::wide;
 use gradings::Logic;
 use gradings::bound;
 use gradings::governs;
 use gradings::wants;
-use sections::wide;
 use zones::misses;
 use zones::zone_of;
 

@@ -6,7 +6,7 @@ ghost use Prim.Native.Nat.{ℕ, _+_, _*_, _/_, _<_, _≤_};
 ghost use lib.ListN.{length, getD};
 ghost use Rattle.boxes.specs.Boxes.{boundCount, boundAt, Inside};
 ghost use Rattle.zones.specs.Zones.{zoneIn, rowIn, Lies, Zoned, Wider};
-use sections::wide;
+use encoding::wide;
 
 // ---- making them
 

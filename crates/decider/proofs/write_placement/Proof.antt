@@ -6,7 +6,7 @@ use Prim.Native.Nat.{_≤_, _*_, _-_}
 use native.Mathlib.Omega.{arith}
 use lib.ListN.{length, take, drop}
 use borrow.Author.Needs.{needs}
-use Rattle.book.specs.Writing.{wordBytes}
+use Rattle.encoding.specs.Words.{wordBytes}
 use Rattle.decider.proofs.Deciding.{placement-start, placement-turn, placement-end}
 use Rattle.decider.proofs.write_placement.Statement.{statement}
 use Rattle.decider.proofs.write_placement.Tie as tie

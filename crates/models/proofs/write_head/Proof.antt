@@ -6,7 +6,7 @@ use Prim.Native.Nat.{ℕ}
 use native.Mathlib.Omega.{arith}
 use lib.Seq.{sets, lt-length-sets, length-sets}
 use borrow.Author.Needs.{needs}
-use Rattle.book.specs.Writing.{wordBytes}
+use Rattle.encoding.specs.Words.{wordBytes}
 use Rattle.models.specs.Rows.{headBy}
 use Rattle.models.proofs.Filling.{stored}
 use Rattle.models.proofs.Rows.{small-indexable, small-offsets}

@@ -6,7 +6,7 @@ use native.Mathlib.Omega.{arith}
 use mathlib.Core.List.{List}
 use lib.ListN.{length}
 use borrow.Author.Needs.{needs}
-use Rattle.book.specs.Layout.{wordAt}
+use Rattle.encoding.specs.Words.{wordAt}
 use Rattle.printout.specs.Text.{Added}
 use Rattle.printout.specs.Lines.{individualLine, individualLines}
 use Rattle.printout.proofs.Lines.{individuals-none, individuals-more}

@@ -1,10 +1,10 @@
--- `book::word` meets its contract.
+-- `encoding::word` meets its contract.
 -- Assumes nothing.
 use native.Mathlib.Omega.{arith}
 use borrow.Author.Needs.{needs}
-use Rattle.book.specs.Layout.{wordAt}
-use Rattle.book.proofs.word.Statement.{statement}
-use Rattle.book.proofs.word.Tie as tie
+use Rattle.encoding.specs.Words.{wordAt}
+use Rattle.encoding.proofs.word.Statement.{statement}
+use Rattle.encoding.proofs.word.Tie as tie
 
 shared-slice-read-wide : tie.Need-shared-slice-read-wide
 shared-slice-read-wide c = search needs

@@ -1,9 +1,9 @@
--- `book::write_word` meets its contract.
+-- `encoding::write_word` meets its contract.
 -- Assumes nothing.
 use native.Mathlib.Numerals.{add-one}
 use borrow.Author.Needs.{needs}
-use Rattle.book.proofs.write_word.Statement.{statement}
-use Rattle.book.proofs.write_word.Tie as tie
+use Rattle.encoding.proofs.write_word.Statement.{statement}
+use Rattle.encoding.proofs.write_word.Tie as tie
 
 cast-b : tie.Need-cast-b
 cast-b c = search needs
