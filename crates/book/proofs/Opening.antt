@@ -1,24 +1,20 @@
 -- Laws of opening: which checks that were made give which answer, in their order.
 -- Assumes nothing.
-use mathlib.Core.Path.{_≡_, refl, ap, ap₂, subst, _∙_}
+use mathlib.Core.Path.{_≡_, refl, ap, subst, _∙_}
 use mathlib.Core.Option.{Option, none, some}
-use mathlib.Core.List.{List, []}
-use Prim.Native.Nat.{ℕ, _≤_, _<_}
+use mathlib.Core.List.{List}
+use Prim.Native.Nat.{ℕ, _≤_}
 use native.Mathlib.Omega.{arith}
 use lib.ListN.{length}
 use Rattle.chain.specs.Questions.{firstNo}
-use Rattle.chain.proofs.Questions.{first-empty, first-yes, first-no, first-none, first-some-append, first-none-append, first-both}
-use Rattle.semantics.specs.Interpretations.{Grading, graded}
-use Rattle.semantics.specs.Candidates.{candidates}
-use Rattle.sections.specs.Terms.{TermsRight, termsOf}
+use Rattle.chain.proofs.Questions.{first-empty, first-yes, first-no, first-none}
+use Rattle.sections.specs.Terms.{TermsRight}
 use Rattle.sections.specs.Rules.{RulesRight}
 use Rattle.sections.specs.Claims.{MembershipsRight, LinksRight}
 use Rattle.book.specs.Layout.{steps, sectionsOf, LengthRight, EditionRight, StepsRight, CountsRight, LaidOut, termBytes, ruleBytes, membershipBytes, linkBytes, termsIn}
-use Rattle.book.specs.Reading.{bookOf}
-use Rattle.book.specs.Opening.{bodyQuestions, bookQuestions, Accepts, Right, opened, openedOf, fewCandidates?, candidateQuestions, counted, countedOf, countedNumber, openedNumber}
+use Rattle.book.specs.Opening.{bodyQuestions, bookQuestions, Accepts, Right, opened, openedOf, openedNumber}
 use Rattle.book.specs.declared.Sections.{Sections}
 use Rattle.book.specs.declared.Opened.the-variants.{Refused, Accepted}
-use Rattle.book.specs.declared.Counted.the-variants.{Refused as Declined, Candidates}
 
 -- ---- the bodies
 
@@ -155,69 +151,12 @@ module _ (b : List ℕ) (s : Sections) (ok : Right b s) where
       ∙ subst (λ (t : Sections). firstNo (bodyQuestions b t) ≡ none) e
       (first-yes _ _ _ (ok .terms-right) ∙ first-yes _ _ _ (ok .rules-right) ∙ first-yes _ _ _ (ok .memberships-right) ∙ first-yes _ _ _ (ok .links-right) ∙ first-empty)
 
-  abbrev G : Grading
-  G = graded (s .steps) (termsOf (termBytes b s))
-
-  few : (k : ℕ) → candidates G ≡ k → candidates (bookOf b .grading) ≡ k
-  unfolding bookOf
-  few k e = subst (λ (t : Sections). candidates (graded (t .steps) (termsOf (termBytes b t))) ≡ k) (ok .sections-are) e
-
-  pub counted-few : (k : ℕ) → candidates G ≡ k → k ≤ 16384 → countedOf b ≡ Candidates k
-  unfolding countedOf Accepts
-  counted-few k e l =
-      ap₂ counted (few k e)
-      (first-none-append (bookQuestions b) _ right-accepts ∙ first-yes 10 (fewCandidates? b) [] (omega (arith, few k e)) ∙ first-empty)
-
-  pub counted-many : 16384 < candidates G → countedOf b ≡ Declined 10
-  unfolding countedOf Accepts
-  counted-many l =
-      ap (counted (candidates (bookOf b .grading)))
-      (first-none-append (bookQuestions b) _ right-accepts ∙ first-no 10 (fewCandidates? b) [] (λ h. omega (arith, few (candidates G) refl)))
-
-pub counted-refused : (b : List ℕ) (n : ℕ) → openedOf b ≡ Refused n → countedOf b ≡ Declined n
-unfolding countedOf
-counted-refused b n e = ap (counted (candidates (bookOf b .grading))) (first-some-append (bookQuestions b) _ n (opened-refused b n e))
-
--- what the count says of the checks 1 to 10
-
-pub counted-candidates : (b : List ℕ) (k : ℕ) → countedOf b ≡ Candidates k → (firstNo (candidateQuestions b) ≡ none) × (candidates (bookOf b .grading) ≡ k)
-unfolding countedOf
-counted-candidates b k = go (firstNo (candidateQuestions b)) refl
-  where
-    go : (o : Option ℕ) → firstNo (candidateQuestions b) ≡ o → counted (candidates (bookOf b .grading)) o ≡ Candidates k
-        → (firstNo (candidateQuestions b) ≡ none) × (candidates (bookOf b .grading) ≡ k)
-    go none e h = (e, cc)
-    go (some n) e h = let z : _≡_ {A = ℕ} 0 1 = cc in absurd (omega arith)
-
--- so there are few
-pub counted-small : (b : List ℕ) (k : ℕ) → countedOf b ≡ Candidates k → k ≤ 16384
-counted-small b k h =
-    let e = counted-candidates b k h in
-    omega (arith, e .1, first-none 10 (fewCandidates? b) [] (first-both (bookQuestions b) _ (e .0) .1) .0)
-
-pub counted-declined : (b : List ℕ) (n : ℕ) → countedOf b ≡ Declined n → firstNo (candidateQuestions b) ≡ some n
-unfolding countedOf
-counted-declined b n = go (firstNo (candidateQuestions b)) refl
-  where
-    go : (o : Option ℕ) → firstNo (candidateQuestions b) ≡ o → counted (candidates (bookOf b .grading)) o ≡ Declined n
-        → firstNo (candidateQuestions b) ≡ some n
-    go none e h = let z : _≡_ {A = ℕ} 0 1 = cc in absurd (omega arith)
-    go (some m) e h = let f : m ≡ n = cc in e ∙ ap {B = Option ℕ} some f
-
--- ---- the answers' numbers are the first no
+-- ---- the answer's number is the first no
 
 pub openedNumber-is : (b : List ℕ) → openedNumber (openedOf b) ≡ firstNo (bookQuestions b)
 unfolding openedOf
 openedNumber-is b = go (firstNo (bookQuestions b))
   where
     go : (o : Option ℕ) → openedNumber (opened (sectionsOf b) o) ≡ o
-    go none = refl
-    go (some n) = refl
-
-pub countedNumber-is : (b : List ℕ) → countedNumber (countedOf b) ≡ firstNo (candidateQuestions b)
-unfolding countedOf
-countedNumber-is b = go (firstNo (candidateQuestions b))
-  where
-    go : (o : Option ℕ) → countedNumber (counted (candidates (bookOf b .grading)) o) ≡ o
     go none = refl
     go (some n) = refl

@@ -8,7 +8,7 @@ use lib.ListN.{length}
 use Rattle.chain.specs.Lists.{highest}
 use Rattle.encoding.proofs.Stretches.{length-stretch}
 use Rattle.semantics.specs.Books.{Book, Valid, nameAbove, roleAbove, linkRoles, membershipIndividuals, linkIndividuals, nameCount, roleCount, individuals, RuleInRange, TermInRange}
-use Rattle.semantics.specs.Candidates.{NamesApart}
+use Rattle.semantics.specs.Terms.{NamesApart}
 use Rattle.semantics.proofs.Interpretations.{graded-well-formed}
 use Rattle.sections.specs.Terms.{termCount, termsOf}
 use Rattle.sections.specs.Claims.{membershipsOf, linksOf}

@@ -2,21 +2,16 @@
 -- Assumes nothing.
 use mathlib.Core.Path.{_≡_}
 use mathlib.Core.Option.{Option, none, some}
-use mathlib.Core.List.{List, [], _∷_, _++_}
-use Prim.Native.Nat.{ℕ, _≤_}
-use native.Mathlib.Decide.{decLe}
+use mathlib.Core.List.{List, [], _∷_}
+use Prim.Native.Nat.{ℕ}
 use Rattle.chain.specs.Questions.{Question, ask, firstNo}
-use Rattle.semantics.specs.Candidates.{candidates}
 use Rattle.sections.specs.Terms.{TermsRight, termsRight?}
 use Rattle.sections.specs.Rules.{RulesRight, rulesRight?}
 use Rattle.sections.specs.Claims.{MembershipsRight, membershipsRight?, LinksRight, linksRight?}
 use Rattle.book.specs.Layout.{sectionsOf, LengthRight, lengthRight?, EditionRight, editionRight?, StepsRight, stepsRight?, CountsRight, countsRight?, LaidOut, laidOut?, termBytes, ruleBytes, membershipBytes, linkBytes, termsIn}
-use Rattle.book.specs.Reading.{bookOf}
 use Rattle.book.specs.declared.Sections.{Sections}
 use Rattle.book.specs.declared.Opened.{Opened}
 use Rattle.book.specs.declared.Opened.the-variants.{Refused, Accepted}
-use Rattle.book.specs.declared.Counted.{Counted}
-use Rattle.book.specs.declared.Counted.the-variants.{Refused as Declined, Candidates}
 
 -- ---- the questions
 
@@ -68,24 +63,3 @@ openedOf b = opened (sectionsOf b) (firstNo (bookQuestions b))
 abbrev pub openedNumber : Opened → Option ℕ
 openedNumber (Refused n) = some n
 openedNumber (Accepted s) = none
-
--- ---- counting the candidates, after that
-
--- "Deciding, then: Are there at most 16,384 candidates?"
-unfoldable pub fewCandidates? : (b : List ℕ) → Dec (candidates (bookOf b .grading) ≤ 16384)
-unfolding decLe
-fewCandidates? b = decLe (candidates (bookOf b .grading)) 16384
-
-abbrev pub candidateQuestions : List ℕ → List Question
-candidateQuestions b = bookQuestions b ++ (ask 10 (fewCandidates? b) ∷ [])
-
-abbrev pub counted : ℕ → Option ℕ → Counted
-counted k none = Candidates k
-counted k (some n) = Declined n
-
-unfoldable pub countedOf : List ℕ → Counted
-countedOf b = counted (candidates (bookOf b .grading)) (firstNo (candidateQuestions b))
-
-abbrev pub countedNumber : Counted → Option ℕ
-countedNumber (Declined n) = some n
-countedNumber (Candidates k) = none

@@ -8,10 +8,9 @@ ghost use Rattle.sections.specs.Terms.{termsOf};
 ghost use Rattle.gradings.specs.Gradings.{grading};
 ghost use Rattle.book.specs.Layout.{sectionsOf, LengthRight, StepsRight, CountsRight, LaidOut, InOrder, termBytes, ruleBytes, membershipBytes, linkBytes, termsIn};
 ghost use Rattle.book.specs.Reading.{bookOf, countsOf};
-ghost use Rattle.book.specs.Opening.{bodyQuestions, Right, opened, openedOf, countedOf};
+ghost use Rattle.book.specs.Opening.{bodyQuestions, Right, opened, openedOf};
 use encoding::word;
 use gradings::Logic;
-use powers::Power;
 
 // The book's own N, which its checks go by, where each body begins, and where the last ends.
 pub struct Sections {
@@ -34,12 +33,6 @@ pub struct Counts {
 pub enum Opened {
     Refused(u8),
     Accepted(Sections),
-}
-
-// The number of the first check that says no, or how many candidates there are.
-pub enum Counted {
-    Refused(u8),
-    Candidates(u64),
 }
 
 fn length_right(b: &[u8]) -> bool
@@ -211,17 +204,6 @@ pub fn open(b: &[u8]) -> Opened
 
 // ---- an accepted book whose sections are `s`
 
-// The number of candidates, or the refusal 10.
-pub fn count_in(b: &[u8], s: Sections) -> Counted
-    requires { ⌜ Right (now b) s ⌝ }
-    ensures { λ r. ⌜ r ≡ countedOf (now (b .entry)) ⌝ }
-{
-    match counts::count_candidates(terms_in(b, s), s.steps) {
-        Power::Exactly(n) => Counted::Candidates(n),
-        Power::More => Counted::Refused(10),
-    }
-}
-
 // How many names, roles and individuals it has.
 pub fn counts_in(b: &[u8], s: Sections) -> Counts
     requires { ⌜ Right (now b) s ⌝ }
@@ -243,14 +225,4 @@ pub fn logic_in(b: &[u8], s: Sections) -> Logic
     ensures { λ r. ⌜ (1 ≤ r .steps) × (r .steps ≤ 8) ⌝ }
 {
     gradings::base_logic(s.steps)
-}
-
-// Checks a book, 1 to 10, and counts its candidates.
-pub fn count(b: &[u8]) -> Counted
-    ensures { λ r. ⌜ r ≡ countedOf (now (b .entry)) ⌝ }
-{
-    match open(b) {
-        Opened::Refused(n) => Counted::Refused(n),
-        Opened::Accepted(s) => count_in(b, s),
-    }
 }

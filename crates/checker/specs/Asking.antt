@@ -7,10 +7,10 @@ use native.Mathlib.Decide.{decLt}
 use lib.ListN.{length}
 use Rattle.chain.specs.Decisions.{dec-and}
 use Rattle.chain.specs.Questions.{Question, ask, firstNo}
-use Rattle.semantics.specs.Candidates.{candidates, gradeIn}
-use Rattle.semantics.specs.Links.{link}
+use Rattle.types.specs.Candidates.{candidates, gradeIn}
+use Rattle.types.specs.Links.{link}
 use Rattle.book.specs.Reading.{bookOf}
-use Rattle.book.specs.Opening.{candidateQuestions}
+use Rattle.counter.specs.Counting.{candidateQuestions}
 use Rattle.checker.specs.declared.Answer.{Answer}
 use Rattle.checker.specs.declared.Answer.the-variants.{Refused, Grade}
 

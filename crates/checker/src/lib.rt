@@ -4,18 +4,19 @@ ghost use mathlib.Core.Path.{_≡_};
 ghost use mathlib.Core.List.{_++_};
 ghost use Prim.Native.Nat.{_≤_};
 ghost use lib.ListN.{length, drop};
-ghost use Rattle.book.specs.Opening.{Right, countedOf};
-ghost use Rattle.book.specs.declared.Counted.the-variants.{Candidates};
+ghost use Rattle.book.specs.Opening.{Right};
 ghost use Rattle.book.specs.Reading.{bookOf};
-ghost use Rattle.sheets.specs.Reading.{sheetOf};
+ghost use Rattle.counter.specs.Counting.{countedOf};
+ghost use Rattle.counter.specs.declared.Counted.the-variants.{Candidates};
 ghost use Rattle.working.specs.Grids.{gridOf};
 ghost use Rattle.working.specs.Working.{verdictOf};
+ghost use Rattle.sheets.specs.Reading.{sheetOf};
 ghost use Rattle.checker.specs.Asking.{gradeAnswer, linkAnswer};
 ghost use Rattle.checker.specs.Working.{gridSize, workedOf, gridAfter};
 ghost use Rattle.checker.specs.Fitting.{SheetFits, Filled};
-use book::Counted;
 use book::Opened;
 use book::Sections;
+use counter::Counted;
 use sheets::Shape;
 use sheets::Sheet;
 use working::Verdict;
@@ -48,7 +49,7 @@ pub fn grade_in(b: &[u8], s: Sections, c: usize, i: usize) -> Answer
     requires { ⌜ Right (now b) s ⌝ }
     ensures { λ r. ⌜ r ≡ gradeAnswer (now (b .entry)) c i ⌝ }
 {
-    match book::count_in(b, s) {
+    match counter::count_in(b, s) {
         Counted::Refused(n) => Answer::Refused(n),
         Counted::Candidates(k) => grade_counted(b, s, k, c, i),
     }
@@ -89,7 +90,7 @@ pub fn link_in(b: &[u8], s: Sections, role: u8, c: usize, d: usize) -> Answer
     requires { ⌜ Right (now b) s ⌝ }
     ensures { λ r. ⌜ r ≡ linkAnswer (now (b .entry)) role c d ⌝ }
 {
-    match book::count_in(b, s) {
+    match counter::count_in(b, s) {
         Counted::Refused(n) => Answer::Refused(n),
         Counted::Candidates(k) => link_counted(b, s, k, role, c, d),
     }

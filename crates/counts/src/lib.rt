@@ -1,46 +1,12 @@
-// How many places and candidates, names, roles and individuals a book's sections have.
+// How many names, roles and individuals a book's sections have: one more than the highest, or 0.
 ghost use mathlib.Core.Path.{_≡_};
-ghost use Prim.Native.Nat.{ℕ, suc, _<_, _≤_, max};
+ghost use Prim.Native.Nat.{suc, _<_, max};
 ghost use Rattle.chain.specs.Lists.{highest};
-ghost use Rattle.powers.specs.Bounded.{bounded};
-ghost use Rattle.semantics.specs.Interpretations.{graded};
 ghost use Rattle.semantics.specs.Books.{nameAbove, roleAbove, linkRoles, membershipIndividuals, linkIndividuals};
-ghost use Rattle.semantics.specs.Candidates.{placesBefore, candidates};
-ghost use Rattle.sections.specs.Terms.{termAt, termsOf, termCount, TermsRight};
+ghost use Rattle.sections.specs.Terms.{termAt, termsOf, termCount};
 ghost use Rattle.sections.specs.Claims.{membershipsOf, linksOf};
 ghost use Rattle.counts.specs.Columns.{column};
 use encoding::wide;
-use powers::Power;
-use sections::is_place;
-
-// ---- places and candidates
-
-// How many of the terms are places.
-pub fn count_places(s: &[u8]) -> usize
-    ensures { λ r. ⌜ r ≡ placesBefore (termsOf (now (s .entry))) (termCount (now (s .entry))) ⌝ }
-{
-    let count = s.len() / 3;
-    let mut found = 0;
-    let mut i = 0;
-    while i < count {
-        if is_place(s, i) {
-            found += 1;
-        }
-        i += 1;
-    }
-    found
-}
-
-// The number of candidates on `steps` steps, up to 16,384 (check 10).
-pub fn count_candidates(s: &[u8], steps: u8) -> Power
-    requires { ⌜ TermsRight (now s) ⌝ }
-    requires { ⌜ (1 ≤ steps) × (steps ≤ 8) ⌝ }
-    ensures { λ r. ⌜ r ≡ bounded (candidates (graded steps (termsOf (now (s .entry))))) ⌝ }
-{
-    powers::bounded_power(steps, count_places(s))
-}
-
-// ---- how many names, roles and individuals: one more than the highest, or 0
 
 // Of two counts; `grades::greater` is the same of two grades, which are bytes.
 fn higher(x: usize, y: usize) -> usize

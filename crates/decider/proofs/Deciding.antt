@@ -15,9 +15,9 @@ use Rattle.chain.proofs.Lists.{at-mem}
 use Rattle.chain.proofs.Questions.{first-empty, first-yes, first-no, first-none, first-some-append, first-none-append}
 use Rattle.encoding.specs.Words.{wordBytes}
 use Rattle.semantics.specs.Books.{Book, individuals}
-use Rattle.semantics.specs.Candidates.{candidates}
+use Rattle.types.specs.Candidates.{candidates}
 use Rattle.book.specs.Reading.{bookOf}
-use Rattle.book.specs.Opening.{candidateQuestions}
+use Rattle.counter.specs.Counting.{candidateQuestions}
 use Rattle.elimination.specs.Marks.{marksOf, marked}
 use Rattle.elimination.proofs.Marks.{length-marks, marked-marks}
 use Rattle.elimination.proofs.Survivors.{survivors-ascending, survivors-sound}

@@ -7,7 +7,7 @@ use native.Mathlib.Omega.{arith}
 use lib.ListN.{length}
 use Rattle.semantics.specs.Interpretations.{Grading}
 use Rattle.semantics.specs.Books.{Book, individuals}
-use Rattle.semantics.specs.Candidates.{candidates, places}
+use Rattle.types.specs.Candidates.{candidates, places}
 use Rattle.sections.specs.Terms.{termCount, termsOf}
 use Rattle.sections.specs.Rules.{rulesOf, RulesRight}
 use Rattle.sections.specs.Books.{bookOfSections}

@@ -15,12 +15,13 @@ use Rattle.chain.specs.Questions.{firstNo}
 use Rattle.chain.proofs.Questions.{first-none-append, first-yes, first-empty}
 use Rattle.encoding.specs.Words.{wordAt, wordBytes}
 use Rattle.semantics.specs.Books.{Book, individuals}
-use Rattle.semantics.specs.Candidates.{candidates}
+use Rattle.types.specs.Candidates.{candidates}
 use Rattle.book.specs.Layout.{sectionsOf}
 use Rattle.book.specs.Reading.{bookOf}
-use Rattle.book.specs.Opening.{Accepts, bookQuestions, fewCandidates?}
+use Rattle.book.specs.Opening.{Accepts, bookQuestions}
 use Rattle.book.proofs.Opening.{accepts-right}
 use Rattle.book.proofs.Reading.{right-individuals}
+use Rattle.counter.specs.Counting.{fewCandidates?}
 use Rattle.elimination.specs.Listed.{typesIn}
 use Rattle.elimination.specs.Marks.{marksOf, Marked, marked}
 use Rattle.elimination.proofs.Survivors.{survivors-ascending}

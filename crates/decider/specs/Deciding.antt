@@ -13,9 +13,10 @@ use Rattle.chain.specs.Questions.{Question, ask, firstNo}
 use Rattle.encoding.specs.Words.{wordAt, wordBytes}
 use Rattle.semantics.specs.Interpretations.{Interpretation}
 use Rattle.semantics.specs.Books.{Book, individuals}
-use Rattle.semantics.specs.Candidates.{candidates}
+use Rattle.types.specs.Candidates.{candidates}
 use Rattle.book.specs.Reading.{bookOf}
-use Rattle.book.specs.Opening.{Accepts, candidateQuestions}
+use Rattle.book.specs.Opening.{Accepts}
+use Rattle.counter.specs.Counting.{candidateQuestions}
 use Rattle.elimination.specs.Listed.{typesIn}
 use Rattle.elimination.specs.Marks.{marksOf, marked}
 use Rattle.placement.specs.Outcome.{seat, survivorsOf, placement, outcome}

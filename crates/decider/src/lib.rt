@@ -5,18 +5,19 @@ ghost use Prim.Native.Nat.{_*_, _<_, _≤_};
 ghost use lib.ListN.{length, take, drop};
 ghost use Rattle.encoding.specs.Words.{wordBytes};
 ghost use Rattle.semantics.specs.Books.{individuals as individualsOf};
-ghost use Rattle.semantics.specs.Candidates.{candidates};
-ghost use Rattle.book.specs.Opening.{Right, countedOf};
+ghost use Rattle.types.specs.Candidates.{candidates};
+ghost use Rattle.book.specs.Opening.{Right};
 ghost use Rattle.book.specs.Reading.{bookOf};
-ghost use Rattle.book.specs.declared.Counted.the-variants.{Candidates};
+ghost use Rattle.counter.specs.Counting.{countedOf};
+ghost use Rattle.counter.specs.declared.Counted.the-variants.{Candidates};
 ghost use Rattle.elimination.specs.Marks.{marked};
 ghost use Rattle.placement.specs.Outcome.{survivorsOf, placement as placementOf, outcome};
 ghost use Rattle.placer.specs.Walk.{placed};
 ghost use Rattle.decider.specs.Deciding.{decision, markedIn, placedIn, decisionOf, marksAfter, placementAfter, HoldsPlacement};
 ghost use Rattle.decider.specs.Equipped.{Equipped};
-use book::Counted;
 use book::Opened;
 use book::Sections;
+use counter::Counted;
 use gradings::Logic;
 
 // The number of the first check that says no, or the outcome and the number of survivors.
@@ -200,7 +201,7 @@ pub fn decide_in(b: &[u8], s: Sections, marks: &mut [u8], placement: &mut [u8]) 
     ensures { λ _. ⌜ now (placement .exit) ≡ placementAfter (now (b .entry)) (length (now (marks .entry))) (now (placement .entry)) ⌝ }
 {
     let mut seats = [0u16; 8];
-    match book::count_in(b, s) {
+    match counter::count_in(b, s) {
         Counted::Refused(n) => Decision::Refused(n),
         Counted::Candidates(k) => decide_counted(b, s, k, marks, placement, &mut seats),
     }

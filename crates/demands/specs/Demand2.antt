@@ -14,9 +14,9 @@ use Rattle.chain.specs.Questions.{firstNo}
 use Rattle.semantics.specs.Interpretations.{Grading, graded, Interpretation, OnChain, atElements, gradeAt}
 use Rattle.semantics.specs.Books.{Book}
 use Rattle.book.specs.Reading.{bookOf}
-use Rattle.sheets.specs.Reading.{sheetOf}
 use Rattle.working.specs.Working.{verdictOf, Says}
 use Rattle.working.specs.declared.Verdict.{Verdict}
+use Rattle.sheets.specs.Reading.{sheetOf}
 use Rattle.checker.specs.Working.{gridSize, workQuestions, workedOf, gridAfter}
 use Rattle.checker.specs.declared.Worked.the-variants.{Refused, Says as Answers}
 use Rattle.book.proofs.Reading.{accepts-valid}

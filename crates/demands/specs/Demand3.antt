@@ -13,7 +13,7 @@ use lib.ListN.{length, getD, take, drop}
 use Rattle.chain.specs.Lists.{Mem, Ascending}
 use Rattle.semantics.specs.Interpretations.{Grading, Interpretation}
 use Rattle.semantics.specs.Books.{Book, Valid, individuals, RuleModel, MeetsClaims, RulesSatisfiable, Satisfiable}
-use Rattle.semantics.specs.Candidates.{candidates, HasType}
+use Rattle.types.specs.Candidates.{candidates, HasType}
 use Rattle.chain.specs.Questions.{firstNo}
 use Rattle.book.specs.Layout.{sectionsOf}
 use Rattle.book.specs.Reading.{bookOf}

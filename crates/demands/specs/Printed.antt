@@ -12,15 +12,15 @@ use Rattle.chain.specs.Digits.{digit}
 use Rattle.encoding.specs.Words.{wordAt}
 use Rattle.semantics.specs.Terms.{value, deep}
 use Rattle.semantics.specs.Books.{Book, individuals}
-use Rattle.semantics.specs.Candidates.{bearer, opens?, places, homeAs, home, slot, candidates, gradeIn}
 use Rattle.semantics.specs.Links.{linkBetween}
+use Rattle.types.specs.Candidates.{bearer, opens?, places, homeAs, home, slot, candidates, gradeIn}
 use Rattle.sections.specs.Terms.{termsRight?, termsOf}
 use Rattle.sections.specs.Rules.{rulesRight?, rulesOf}
 use Rattle.sections.specs.Claims.{membershipsRight?, linksRight?, membershipsOf, linksOf}
 use Rattle.grades.specs.Rows.{rowOf}
 use Rattle.book.specs.Layout.{sectionsOf, lengthRight?, editionRight?, stepsRight?, countsRight?, laidOut?}
 use Rattle.book.specs.Reading.{bookOf}
-use Rattle.book.specs.Opening.{fewCandidates?, candidateQuestions}
+use Rattle.counter.specs.Counting.{fewCandidates?, candidateQuestions}
 use Rattle.elimination.specs.Survivors.{fits?, settle, survivors}
 use Rattle.placement.specs.Dictionary.{tryEach}
 use Rattle.placement.specs.Outcome.{survivorsOf, holds?, placementAmong, placement, outcome}

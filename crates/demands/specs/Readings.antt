@@ -11,8 +11,9 @@ use Rattle.chain.specs.Digits.{digit}
 use Rattle.semantics.specs.Terms.{Term, name, all, value, deep}
 use Rattle.semantics.specs.Interpretations.{graded}
 use Rattle.semantics.specs.Books.{Book, individuals}
-use Rattle.semantics.specs.Candidates.{bearer, opens?, places, homeAs, home, slot, candidates, gradeIn}
-use Rattle.semantics.specs.Links.{linkBetween, link}
+use Rattle.semantics.specs.Links.{linkBetween}
+use Rattle.types.specs.Candidates.{bearer, opens?, places, homeAs, home, slot, candidates, gradeIn}
+use Rattle.types.specs.Links.{link}
 use Rattle.chain.specs.Decisions.{says}
 use Rattle.chain.specs.Questions.{firstNo}
 use Rattle.encoding.specs.Words.{wordAt}
@@ -21,7 +22,8 @@ use Rattle.sections.specs.Rules.{rulesRight?, rulesOf}
 use Rattle.sections.specs.Claims.{membershipsRight?, linksRight?, membershipsOf, linksOf}
 use Rattle.book.specs.Layout.{sectionsOf, lengthRight?, editionRight?, stepsRight?, countsRight?, laidOut?}
 use Rattle.book.specs.Reading.{bookOf}
-use Rattle.book.specs.Opening.{bookQuestions, fewCandidates?}
+use Rattle.book.specs.Opening.{bookQuestions}
+use Rattle.counter.specs.Counting.{fewCandidates?}
 use Rattle.decider.specs.Deciding.{decisionOf}
 use Rattle.decider.specs.declared.Decision.the-variants.{Decided}
 use Rattle.elimination.specs.Survivors.{fits?, settle, survivors}

@@ -9,17 +9,17 @@ use Prim.Native.Nat.{ℕ, _+_, _^_, _≤_, _<_}
 use lib.ListN.{length}
 use Rattle.chain.specs.Digits.{digit}
 use Rattle.chain.specs.Connectives.{existential, universal}
-use Rattle.semantics.specs.Terms.{term, local}
+use Rattle.semantics.specs.Terms.{term, local, NamesApart}
 use Rattle.semantics.specs.Quantified.{EachOfRole}
 use Rattle.semantics.specs.Interpretations.{Grading, WellFormed}
 use Rattle.semantics.specs.Books.{Book, Valid, individuals, RulesSatisfiable, Satisfiable}
-use Rattle.semantics.specs.Candidates.{place, IsPlace, placesBefore, NamesApart, candidates, inCandidate, gradeIn}
-use Rattle.semantics.specs.Links.{link}
+use Rattle.types.specs.Candidates.{place, IsPlace, placesBefore, candidates, inCandidate, gradeIn}
+use Rattle.types.specs.Links.{link}
+use Rattle.types.proofs.Candidates as Candidates
 use Rattle.elimination.specs.Survivors.{Sound, Survives}
 use Rattle.placement.specs.Dictionary.{Foremost, Nowhere}
 use Rattle.placement.specs.Outcome.{seat, HoldsAt, Unmentioned, placement, outcome, survivorsOf}
-use Rattle.semantics.proofs.Candidates as Candidates
-use Rattle.semantics.proofs.Links as Links
+use Rattle.types.proofs.Links as Links
 use Rattle.elimination.proofs.Survivors as Survivors
 use Rattle.placement.proofs.Outcome as Outcome
 

@@ -14,12 +14,13 @@ use Rattle.semantics.specs.Terms.{term}
 use Rattle.semantics.specs.Quantified.{quantified}
 use Rattle.semantics.specs.Interpretations.{Grading, WellFormed, Interpretation, OnChain}
 use Rattle.semantics.specs.Books.{Rule, RuleInRange, RuleModel}
-use Rattle.semantics.specs.Candidates.{gradeIn, candidates, typeOf}
-use Rattle.semantics.specs.Links.{link}
 use Rattle.semantics.proofs.Terms.{child-lt}
 use Rattle.semantics.proofs.Interpretations.{taken, gradeAt-quantified, gradeAt-le}
-use Rattle.semantics.proofs.Candidates.{typeOf-lt, typeOf-has}
-use Rattle.semantics.proofs.Links.{allows-own, link-most, link-le, link-bounded}
+use Rattle.semantics.proofs.Links.{allows-own}
+use Rattle.types.specs.Candidates.{gradeIn, candidates, typeOf}
+use Rattle.types.specs.Links.{link}
+use Rattle.types.proofs.Candidates.{typeOf-lt, typeOf-has}
+use Rattle.types.proofs.Links.{link-most, link-le, link-bounded}
 use Rattle.elimination.specs.Survivors.{Fits, Sound, Survives, Witnesses}
 use Rattle.elimination.proofs.Survivors.{survivors-largest}
 
@@ -69,6 +70,6 @@ module _ (G : Grading) (rs : List Rule) (w : WellFormed G) (in-range : Each (Rul
     fits = λ c u. subst (Fits G rs Realised) (u .2) (realised-fits (u .0) (u .1));
   }
 
-  -- THEOREM A (with `typeOf-has` and `typeOf-only` of semantics)
+  -- THEOREM A (with `typeOf-has` and `typeOf-only` of `types`)
   pub complete : (e : ℕ) → e < I .size → Survives G rs (typeOf G I e)
   complete e h = survivors-largest G rs Realised realised-sound (typeOf G I e) (e, h, refl)

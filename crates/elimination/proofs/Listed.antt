@@ -16,11 +16,11 @@ use Rattle.semantics.specs.Terms.{Term, name, not, and, or, some, all, top, bot
 use Rattle.semantics.specs.Quantified.{quantified}
 use Rattle.semantics.specs.Interpretations.{Grading, WellFormed, OnChain, atElements}
 use Rattle.semantics.specs.Books.{Rule, RuleInRange, RuleModel}
-use Rattle.semantics.specs.Candidates.{gradeIn, named?, bearer, candidates, HasType}
-use Rattle.semantics.specs.Links.{link}
 use Rattle.semantics.proofs.Interpretations.{gradeAt-unique}
-use Rattle.semantics.proofs.Candidates.{gradeIn-le, gradeIn-local, gradeIn-name, typeOf-only}
-use Rattle.semantics.proofs.Links.{link-le, link-bounded}
+use Rattle.types.specs.Candidates.{gradeIn, named?, bearer, candidates, HasType}
+use Rattle.types.specs.Links.{link}
+use Rattle.types.proofs.Candidates.{gradeIn-le, gradeIn-local, gradeIn-name, typeOf-only}
+use Rattle.types.proofs.Links.{link-le, link-bounded}
 use Rattle.elimination.specs.Survivors.{survivors, Survives}
 use Rattle.elimination.specs.Listed.{listed, listedTypes, Occurs}
 use Rattle.elimination.proofs.Survivors.{survivors-sound}

@@ -11,7 +11,7 @@ use Rattle.chain.specs.Lists.{Mem, Each, each?, keep, Ascending}
 use Rattle.chain.proofs.Lists.{each-mem, mem-keep, keep-mem, keep-less, mem-from, from-mem, length-from, ascending-from, ascending-keep}
 use Rattle.semantics.specs.Interpretations.{Grading}
 use Rattle.semantics.specs.Books.{Rule}
-use Rattle.semantics.specs.Candidates.{candidates}
+use Rattle.types.specs.Candidates.{candidates}
 use Rattle.elimination.specs.Survivors.{Fits, Sound, fits?, settle, survivors, Survives, Covers}
 
 module _ (G : Grading) (rs : List Rule) where

@@ -10,10 +10,12 @@ use Rattle.chain.proofs.Connectives.{within-refl, within-trans, within-antisymm
 use Rattle.semantics.specs.Terms.{term}
 use Rattle.semantics.specs.Quantified.{quantified}
 use Rattle.semantics.specs.Interpretations.{Grading, WellFormed}
-use Rattle.semantics.specs.Candidates.{gradeIn}
-use Rattle.semantics.specs.Links.{Allows, link}
-use Rattle.semantics.proofs.Candidates.{gradeIn-le}
-use Rattle.semantics.proofs.Links.{child-in, link-le, link-most, link-allows, link-bounded}
+use Rattle.semantics.specs.Links.{Allows}
+use Rattle.semantics.proofs.Links.{child-in}
+use Rattle.types.specs.Candidates.{gradeIn}
+use Rattle.types.specs.Links.{link}
+use Rattle.types.proofs.Candidates.{gradeIn-le}
+use Rattle.types.proofs.Links.{link-le, link-most, link-allows, link-bounded}
 use Rattle.elimination.specs.Survivors.{Witnesses}
 
 module _ (G : Grading) (w : WellFormed G) (c d i : ℕ) (l : i < length (G .terms)) (q : Quantifier) (r x : ℕ) (e : term (G .terms) i ≡ quantified q r x) where

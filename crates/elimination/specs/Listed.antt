@@ -6,8 +6,8 @@ use Prim.Native.Nat.{ℕ, _<_}
 use lib.ListN.{length, getD}
 use Rattle.semantics.specs.Interpretations.{Grading, Interpretation}
 use Rattle.semantics.specs.Books.{Rule, RuleModel}
-use Rattle.semantics.specs.Candidates.{bearer, gradeIn, HasType}
-use Rattle.semantics.specs.Links.{link}
+use Rattle.types.specs.Candidates.{bearer, gradeIn, HasType}
+use Rattle.types.specs.Links.{link}
 use Rattle.elimination.specs.Survivors.{survivors}
 
 -- "Their interpretation has one element for each, its names graded as in the type (0 for a name that no term uses), and for each role the links

@@ -11,8 +11,8 @@ use Rattle.chain.specs.Connectives.{Quantifier, through}
 use Rattle.semantics.specs.Quantified.{EachQuantified, eachQuantified?}
 use Rattle.semantics.specs.Interpretations.{Grading}
 use Rattle.semantics.specs.Books.{Rule}
-use Rattle.semantics.specs.Candidates.{gradeIn, candidates}
-use Rattle.semantics.specs.Links.{link}
+use Rattle.types.specs.Candidates.{gradeIn, candidates}
+use Rattle.types.specs.Links.{link}
 
 -- candidate d is a witness of c's term i, which has quantifier q, role r and child x: through the link of the two it takes exactly its grade
 abbrev pub Witnesses : Grading → (c i : ℕ) → Quantifier → (r x d : ℕ) → Type 0

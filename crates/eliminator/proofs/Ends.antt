@@ -10,8 +10,8 @@ use lib.ListN.{length, getD, List·getD-eq-default}
 use Rattle.semantics.specs.Terms.{Term, Ordered}
 use Rattle.semantics.specs.Interpretations.{Grading, WellFormed}
 use Rattle.semantics.specs.Books.{Rule}
-use Rattle.semantics.specs.Candidates.{candidates}
-use Rattle.semantics.proofs.Candidates.{gradeIn-le}
+use Rattle.types.specs.Candidates.{candidates}
+use Rattle.types.proofs.Candidates.{gradeIn-le}
 use Rattle.gradings.specs.Gradings.{grading}
 use Rattle.gradings.specs.declared.Logic.{Logic}
 use Rattle.gradings.proofs.Gradings.{grading-well-formed}

@@ -15,7 +15,7 @@ use Rattle.chain.proofs.Search.{rank-yes, rank-no, rank-same}
 use Rattle.chain.proofs.Lists.{each-table, table-each}
 use Rattle.semantics.specs.Interpretations.{Grading}
 use Rattle.semantics.specs.Books.{Rule}
-use Rattle.semantics.specs.Candidates.{gradeIn}
+use Rattle.types.specs.Candidates.{gradeIn}
 use Rattle.sections.specs.Rules.{ruleCount, ruleAt, rulesOf, RulesRight}
 use Rattle.slots.specs.Slots.{slotCount, slotChild, slotTerm}
 use Rattle.slots.specs.Rows.{SlotRow}

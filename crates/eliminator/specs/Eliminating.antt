@@ -4,7 +4,7 @@ use mathlib.Core.Path.{_≡_}
 use mathlib.Core.List.{List}
 use Prim.Native.Nat.{ℕ, _≤_}
 use lib.ListN.{length}
-use Rattle.semantics.specs.Candidates.{candidates}
+use Rattle.types.specs.Candidates.{candidates}
 use Rattle.sections.specs.Terms.{termCount, termsOf, TermsRight}
 use Rattle.sections.specs.Rules.{rulesOf, RulesRight}
 use Rattle.gradings.specs.Gradings.{grading}

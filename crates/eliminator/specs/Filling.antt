@@ -8,7 +8,7 @@ use lib.ListN.{length, getD}
 use Rattle.chain.specs.Search.{rank}
 use Rattle.semantics.specs.Interpretations.{Grading}
 use Rattle.semantics.specs.Books.{Rule}
-use Rattle.semantics.specs.Candidates.{gradeIn}
+use Rattle.types.specs.Candidates.{gradeIn}
 use Rattle.sections.specs.Rules.{ruleCount, ruleAt}
 use Rattle.slots.specs.Slots.{slotCount, slotChild, slotTerm}
 use Rattle.elimination.specs.Survivors.{Obeys}

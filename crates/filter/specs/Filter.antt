@@ -7,7 +7,7 @@ use mathlib.Core.List.{List}
 use Prim.Native.Nat.{ℕ, _+_, _*_, _≤_, _<_}
 use lib.ListN.{getD, take}
 use Rattle.semantics.specs.Books.{Claimed}
-use Rattle.semantics.specs.Candidates.{gradeIn}
+use Rattle.types.specs.Candidates.{gradeIn}
 use Rattle.sections.specs.Terms.{termCount, termsOf, TermsRight}
 use Rattle.sections.specs.Claims.{claimCount, membershipAt, MembershipsRight}
 use Rattle.gradings.specs.Gradings.{grading}

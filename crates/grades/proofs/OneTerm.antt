@@ -18,11 +18,11 @@ use Rattle.chain.proofs.Digits.{digit-power, off-zero, off-suc}
 use Rattle.semantics.specs.Terms.{Term, name, not, and, or, some, all, top, bottom, term, Children, local}
 use Rattle.semantics.specs.Quantified.{quantified}
 use Rattle.semantics.specs.Interpretations.{Grading, WellFormed}
-use Rattle.semantics.specs.Candidates.{place, IsPlace, isPlace?, placesBefore, gradeIn}
 use Rattle.semantics.specs.Links.{Governs, TermAllows}
 use Rattle.semantics.proofs.Terms.{child-lt, local-same}
 use Rattle.semantics.proofs.Quantified.{quantified-alike}
-use Rattle.semantics.proofs.Candidates.{placesBefore-zero, placesBefore-place, placesBefore-other, gradeIn-local, gradeIn-le, gradeIn-place}
+use Rattle.types.specs.Candidates.{place, IsPlace, isPlace?, placesBefore, gradeIn}
+use Rattle.types.proofs.Candidates.{placesBefore-zero, placesBefore-place, placesBefore-other, gradeIn-local, gradeIn-le, gradeIn-place}
 use Rattle.gradings.specs.Gradings.{connectivesOf, grading}
 use Rattle.gradings.specs.declared.Logic.{Logic}
 use Rattle.gradings.proofs.Gradings.{grading-well-formed}

@@ -10,10 +10,11 @@ use Rattle.chain.proofs.Lists.{length-table, getD-table, every-table}
 use Rattle.chain.proofs.Blocks.{length-block, each-block-more}
 use Rattle.semantics.specs.Terms.{Term, Ordered}
 use Rattle.semantics.specs.Interpretations.{Grading, WellFormed}
-use Rattle.semantics.specs.Candidates.{gradeIn}
-use Rattle.semantics.specs.Links.{linkBetween, link}
-use Rattle.semantics.proofs.Candidates.{gradeIn-le}
+use Rattle.semantics.specs.Links.{linkBetween}
 use Rattle.semantics.proofs.Links.{between-alike}
+use Rattle.types.specs.Candidates.{gradeIn}
+use Rattle.types.specs.Links.{link}
+use Rattle.types.proofs.Candidates.{gradeIn-le}
 use Rattle.gradings.specs.Gradings.{grading}
 use Rattle.gradings.specs.declared.Logic.{Logic}
 use Rattle.gradings.proofs.Gradings.{grading-well-formed}

@@ -6,7 +6,7 @@ use mathlib.Core.List.{List}
 use Prim.Native.Nat.{ℕ, _/_}
 use lib.ListN.{length, getD}
 use Rattle.semantics.specs.Terms.{Term, Carrier, local}
-use Rattle.semantics.specs.Candidates.{place, isPlace?}
+use Rattle.types.specs.Candidates.{place, isPlace?}
 use Rattle.gradings.specs.Gradings.{connectivesOf}
 use Rattle.gradings.specs.declared.Logic.{Logic}
 use Rattle.sections.specs.Terms.{termAt}

@@ -6,7 +6,7 @@ use Prim.Native.Nat.{ℕ, _*_, _<_}
 use lib.ListN.{length, getD, take, drop}
 use Rattle.chain.specs.Lists.{table}
 use Rattle.semantics.specs.Interpretations.{Grading}
-use Rattle.semantics.specs.Candidates.{gradeIn}
+use Rattle.types.specs.Candidates.{gradeIn}
 
 -- "A candidate's type is its grades for all terms": the row of them, in term order
 unfoldable pub rowOf : Grading → ℕ → List ℕ

@@ -4,8 +4,9 @@ ghost use mathlib.Core.List.{_++_};
 ghost use Prim.Native.Nat.{ℕ, _+_, _*_, _%_, _<_, _≤_};
 ghost use lib.ListN.{length, getD, take, drop};
 ghost use Rattle.chain.specs.Decisions.{Tells};
-ghost use Rattle.semantics.specs.Candidates.{gradeIn};
-ghost use Rattle.semantics.specs.Links.{TermAllows, Allows, linkBetween, link};
+ghost use Rattle.semantics.specs.Links.{TermAllows, Allows, linkBetween};
+ghost use Rattle.types.specs.Candidates.{gradeIn};
+ghost use Rattle.types.specs.Links.{link};
 ghost use Rattle.gradings.specs.Gradings.{grading};
 ghost use Rattle.sections.specs.Terms.{termCount, termAt, termsOf, TermsRight};
 ghost use Rattle.grades.specs.Rows.{rowOf, HasGrades, entry, rowAt};
@@ -17,7 +18,7 @@ use gradings::disjunction;
 use gradings::governs;
 use gradings::negation;
 use gradings::permits;
-use sections::is_place;
+use places::is_place;
 
 // ---- a child's grade
 

@@ -14,7 +14,7 @@ use Rattle.chain.proofs.Decisions.{tells-map, tells-eq}
 use Rattle.chain.proofs.Lists.{length-table}
 use Rattle.semantics.specs.Terms.{Term, name, term}
 use Rattle.semantics.specs.Interpretations.{Grading}
-use Rattle.semantics.specs.Candidates.{named?, bearer, gradeIn}
+use Rattle.types.specs.Candidates.{named?, bearer, gradeIn}
 use Rattle.sections.specs.Terms.{kindByte, aByte, kindAt, aAt, termCount, termsOf, TermsRight}
 use Rattle.sections.proofs.Terms.{term-kind, term-at, terms-ordered}
 use Rattle.gradings.specs.Gradings.{grading}

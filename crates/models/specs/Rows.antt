@@ -7,8 +7,8 @@ use lib.ListN.{length, getD}
 use Rattle.chain.specs.Lists.{table, from, index}
 use Rattle.semantics.specs.Terms.{Term}
 use Rattle.semantics.specs.Interpretations.{Grading, Interpretation}
-use Rattle.semantics.specs.Candidates.{bearer}
 use Rattle.semantics.specs.Links.{linkBetween}
+use Rattle.types.specs.Candidates.{bearer}
 use Rattle.sections.specs.Terms.{termsOf}
 use Rattle.gradings.specs.Gradings.{grading}
 use Rattle.gradings.specs.declared.Logic.{Logic}

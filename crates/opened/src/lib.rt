@@ -3,15 +3,16 @@
 // is made again: a question requires `Right`, which says that they all said yes and that these are the book's sections. `book::open` gives it.
 ghost use mathlib.Core.Path.{_≡_};
 ghost use lib.ListN.{length};
-ghost use Rattle.book.specs.Opening.{Right, countedOf};
+ghost use Rattle.book.specs.Opening.{Right};
+ghost use Rattle.counter.specs.Counting.{countedOf};
 ghost use Rattle.checker.specs.Asking.{gradeAnswer, linkAnswer};
 ghost use Rattle.checker.specs.Working.{workedOf, gridAfter};
 ghost use Rattle.decider.specs.Deciding.{decisionOf, marksAfter, placementAfter};
 ghost use Rattle.writer.specs.Writing.{writtenOf, sheetAfter};
-use book::Counted;
 use book::Sections;
 use checker::Answer;
 use checker::Worked;
+use counter::Counted;
 use decider::Decision;
 use writer::Written;
 
@@ -33,7 +34,7 @@ impl<'a> Book<'a> {
         requires { ⌜ Right (now (self .bytes)) (self .sections) ⌝ }
         ensures { λ r. ⌜ r ≡ countedOf (now (self .entry .bytes)) ⌝ }
     {
-        book::count_in(self.bytes, self.sections)
+        counter::count_in(self.bytes, self.sections)
     }
 
     // The grade of term `i` in candidate `c`.

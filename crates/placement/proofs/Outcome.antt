@@ -13,9 +13,9 @@ use Rattle.chain.specs.Lists.{Each, Ascending, table, index}
 use Rattle.chain.proofs.Lists.{mem-at, at-mem, each-mem, each-map₂, each-map₃, length-table, getD-table, each-table, each-highest, index-lt, at-index}
 use Rattle.semantics.specs.Interpretations.{Grading}
 use Rattle.semantics.specs.Books.{Book, Claimed, membershipIndividuals, linkIndividuals, individuals, Valid, MeetsMembership, MeetsLink, RuleModel, MeetsClaims, RulesSatisfiable, Satisfiable}
-use Rattle.semantics.specs.Candidates.{gradeIn, typeOf}
-use Rattle.semantics.specs.Links.{link}
-use Rattle.semantics.proofs.Candidates.{typeOf-has}
+use Rattle.types.specs.Candidates.{gradeIn, typeOf}
+use Rattle.types.specs.Links.{link}
+use Rattle.types.proofs.Candidates.{typeOf-has}
 use Rattle.elimination.specs.Survivors.{Survives}
 use Rattle.elimination.specs.Listed.{listed, listedTypes}
 use Rattle.elimination.proofs.Survivors.{survivors-ascending}

@@ -11,8 +11,8 @@ use Rattle.chain.specs.Decisions.{dec-and}
 use Rattle.chain.specs.Lists.{Each, each?, index}
 use Rattle.semantics.specs.Interpretations.{Grading, Interpretation}
 use Rattle.semantics.specs.Books.{Book, MembershipClaim, LinkClaim, Claimed, claimed?, individuals}
-use Rattle.semantics.specs.Candidates.{gradeIn}
-use Rattle.semantics.specs.Links.{link}
+use Rattle.types.specs.Candidates.{gradeIn}
+use Rattle.types.specs.Links.{link}
 use Rattle.elimination.specs.Survivors.{survivors}
 use Rattle.elimination.specs.Listed.{listedTypes}
 use Rattle.placement.specs.Dictionary.{seek}

@@ -13,8 +13,8 @@ use Rattle.semantics.specs.Terms.{Ordered}
 use Rattle.semantics.specs.Interpretations.{Grading, WellFormed}
 use Rattle.semantics.specs.Books.{Book, membershipIndividuals, linkIndividuals, individuals}
 use Rattle.semantics.specs.Links.{Allows}
-use Rattle.semantics.proofs.Candidates.{gradeIn-le}
-use Rattle.semantics.proofs.Links.{link-allows}
+use Rattle.types.proofs.Candidates.{gradeIn-le}
+use Rattle.types.proofs.Links.{link-allows}
 use Rattle.sections.specs.Terms.{termCount, termsOf}
 use Rattle.sections.specs.Claims.{claimCount, membershipAt, linkAt, membershipsOf, linksOf}
 use Rattle.sections.proofs.Terms.{terms-ordered}

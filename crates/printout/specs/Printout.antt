@@ -10,7 +10,7 @@ use Rattle.chain.specs.Questions.{firstNo}
 use Rattle.semantics.specs.Books.{Book, individuals}
 use Rattle.grades.specs.Rows.{rowOf}
 use Rattle.book.specs.Reading.{bookOf}
-use Rattle.book.specs.Opening.{candidateQuestions}
+use Rattle.counter.specs.Counting.{candidateQuestions}
 use Rattle.placement.specs.Outcome.{seat, survivorsOf, placement, outcome}
 use Rattle.printout.specs.Lines.{refusedLine, outcomeLine, typeLines, individualLines}
 

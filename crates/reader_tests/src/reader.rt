@@ -4,9 +4,9 @@ use crate::answers::Answer;
 use crate::answers::accepted;
 use crate::answers::judge;
 use crate::answers::refused;
-use book::Counted;
 use book::Opened;
 use book::Sections;
+use counter::Counted;
 use reports::numbers::wide;
 use reports::tally::Tally;
 use reports::text::byte;
@@ -35,7 +35,7 @@ fn steps(b: &[u8], s: Sections) -> bool {
 }
 
 fn after_refusal(b: &[u8], number: u8) -> Answer {
-    match book::count(b) {
+    match counter::count(b) {
         Counted::Refused(n) => refused(if n == number && n < 10 { n } else { APART }),
         Counted::Candidates(_) => refused(APART),
     }
@@ -45,7 +45,7 @@ fn after_opening(b: &[u8], s: Sections) -> Answer {
     if !named(b, s) || !steps(b, s) {
         return refused(APART);
     }
-    match book::count(b) {
+    match counter::count(b) {
         Counted::Refused(n) => refused(if n == 10 { n } else { APART }),
         Counted::Candidates(n) => accepted(n),
     }

@@ -14,10 +14,9 @@ use Rattle.chain.specs.Connectives.{Quantifier, existential, universal}
 use Rattle.chain.proofs.Decisions.{tells-map}
 use Rattle.chain.proofs.Lists.{length-table, getD-table, highest-most}
 use Rattle.chain.proofs.Blocks.{blocks-whole}
-use Rattle.semantics.specs.Terms.{Term, name, not, and, or, some, all, top, bottom, term, Children, Ordered}
+use Rattle.semantics.specs.Terms.{Term, name, not, and, or, some, all, top, bottom, term, Children, Ordered, NamesApart}
 use Rattle.semantics.specs.Quantified.{quantified}
 use Rattle.semantics.specs.Books.{nameAbove, roleAbove}
-use Rattle.semantics.specs.Candidates.{place, IsPlace, NamesApart}
 use Rattle.sections.specs.Terms.{termOf, quantifierOf, kindByte, aByte, InRange, Described, kindAt, aAt, bAt, termCount, termAt, termsOf, TermsRight}
 
 kindByte-lt : (t : Term) → kindByte t < 8
@@ -94,14 +93,6 @@ module _ (s : List ℕ) (i : ℕ) where
 
   pub range-kind : TermsRight s → i < termCount s → (k : ℕ) → kindAt s i ≡ k → InRange i (termOf k (aAt s i) (bAt s i))
   range-kind ok h k e = subst (InRange i) (term-kind k e) (ok i h .0 .0)
-
-  pub place-kind : (k : ℕ) → kindAt s i ≡ k → IsPlace (place (termOf k (aAt s i) (bAt s i))) → IsPlace (place (termAt s i))
-  place-kind k e h = subst (λ (t : Term). IsPlace (place t)) (sym (term-kind k e)) h
-
-  pub other-kind : ¬ (kindAt s i ≡ 0) → ¬ (kindAt s i ≡ 4) → ¬ (kindAt s i ≡ 5) → ¬ IsPlace (place (termAt s i))
-  other-kind =
-      by-kind (λ k t. ¬ (k ≡ 0) → ¬ (k ≡ 4) → ¬ (k ≡ 5) → ¬ IsPlace (place t)) (aAt s i) (bAt s i) (λ n _ _ _. n refl) (λ _ _ _ z. z)
-      (λ _ _ _ z. z) (λ _ _ _ z. z) (λ _ n _ _. n refl) (λ _ _ n _. n refl) (λ _ _ _ z. z) (λ _ _ _ z. z) (λ _ _ _ _ _ z. z) (kindAt s i)
 
 -- ---- the section's terms
 

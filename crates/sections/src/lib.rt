@@ -2,8 +2,7 @@
 ghost use Prim.Native.Nat.{ℕ, _<_};
 ghost use Rattle.chain.specs.Decisions.{Tells};
 ghost use Rattle.semantics.specs.Books.{Claimed};
-ghost use Rattle.semantics.specs.Candidates.{place, IsPlace};
-ghost use Rattle.sections.specs.Terms.{termCount, termAt, Described, SameName, TermRight, TermsRight};
+ghost use Rattle.sections.specs.Terms.{termCount, Described, SameName, TermRight, TermsRight};
 ghost use Rattle.sections.specs.Rules.{ruleCount, RuleRight, RulesRight};
 ghost use Rattle.sections.specs.Claims.{senseOf, claimCount, MembershipRight, MembershipsRight, LinkRight, LinksRight};
 use encoding::wide;
@@ -105,20 +104,6 @@ pub fn terms_right(s: &[u8]) -> bool
         i += 1;
     }
     true
-}
-
-// Is term `i` a place: a name, a "some" or an "all"?
-pub fn is_place(s: &[u8], i: usize) -> bool
-    requires { ⌜ i < termCount (now s) ⌝ }
-    ensures { λ r. ⌜ Tells r (IsPlace (place (termAt (now (s .entry)) i))) ⌝ }
-{
-    let kind = s[3 * i];
-    match kind {
-        0 => true,
-        4 => true,
-        5 => true,
-        _ => false,
-    }
 }
 
 // ---- rules: two bytes each (check 7)

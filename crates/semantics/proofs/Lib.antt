@@ -1,5 +1,4 @@
 pub mod Terms
 pub mod Quantified
 pub mod Interpretations
-pub mod Candidates
 pub mod Links

@@ -2,7 +2,7 @@
 -- links. No other file looks inside the definition.
 -- Assumes nothing.
 use mathlib.Core.Path.{_≡_, refl, sym, subst}
-use mathlib.Core.Logic.{_↔_, Iff·trans}
+use mathlib.Core.Logic.{_↔_}
 use Prim.Native.Nat.{ℕ, _≤_, _<_}
 use native.Mathlib.Nat.{le-antisymm}
 use native.Mathlib.Omega.{arith}
@@ -14,10 +14,8 @@ use Rattle.chain.proofs.Connectives.{within-trans, neutral-within, through-mono
 use Rattle.semantics.specs.Terms.{term}
 use Rattle.semantics.specs.Quantified.{quantified, EachOfRole}
 use Rattle.semantics.specs.Interpretations.{Grading, WellFormed}
-use Rattle.semantics.specs.Candidates.{gradeIn}
-use Rattle.semantics.specs.Links.{Allows, allows?, linkBetween, link}
+use Rattle.semantics.specs.Links.{Allows, allows?, linkBetween}
 use Rattle.semantics.proofs.Terms.{child-lt}
-use Rattle.semantics.proofs.Candidates.{gradeIn-le}
 
 -- the terms have grades on the chain
 abbrev pub Graded : Grading → (ℕ → ℕ) → Type 0
@@ -99,28 +97,3 @@ module _ (G : Grading) (w : WellFormed G) (r : ℕ) where
       (between-most G r own child _ (between-le G r own' child')
       (allows-alike own' own child' child (λ i l. sym (a i l)) (λ i l. sym (b i l)) _
       (between-allows G r own' child' w (λ i l. rw (← a i l) (ho i l)) (λ i l. rw (← b i l) (hc i l)))))
-
--- ---- between two candidates
-
-module _ (G : Grading) (r c d : ℕ) where
-  pub link-le : link G r c d ≤ G .steps
-  link-le = between-le G r (gradeIn G c) (gradeIn G d)
-
-  pub link-most : (s : ℕ) → s ≤ G .steps → Allows G r (gradeIn G c) (gradeIn G d) s → s ≤ link G r c d
-  link-most = between-most G r (gradeIn G c) (gradeIn G d)
-
-  module _ (w : WellFormed G) where
-    pub link-allows : (s : ℕ) → s ≤ G .steps → (s ≤ link G r c d) ↔ Allows G r (gradeIn G c) (gradeIn G d) s
-    link-allows = up-to-link G r (gradeIn G c) (gradeIn G d) w (gradeIn-le G w c) (gradeIn-le G w d)
-
-    -- in the words of the document
-    pub link-each : (s : ℕ) → s ≤ G .steps → (s ≤ link G r c d)
-        ↔ (EachOfRole (G .terms) universal r (λ i x. gradeIn G c i ≤ G .connectives .implication s (gradeIn G d x))
-        × EachOfRole (G .terms) existential r (λ i x. G .connectives .conjunction s (gradeIn G d x) ≤ gradeIn G c i))
-    link-each s h = Iff·trans (link-allows s h) (allows-each G r (gradeIn G c) (gradeIn G d) s)
-
-    -- what a term of the role takes through the link does not pass its grade
-    pub link-bounded : (i : ℕ) → i < length (G .terms) → (q : Quantifier) (x : ℕ) → term (G .terms) i ≡ quantified q r x
-        → Within q (through (G .connectives) q (link G r c d) (gradeIn G d x)) (gradeIn G c i)
-    link-bounded i l q x e =
-        between-allows G r (gradeIn G c) (gradeIn G d) w (gradeIn-le G w c) (gradeIn-le G w d) i l q r x e refl

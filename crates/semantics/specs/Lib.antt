@@ -2,5 +2,4 @@ pub mod Terms
 pub mod Quantified
 pub mod Interpretations
 pub mod Books
-pub mod Candidates
 pub mod Links

@@ -10,7 +10,6 @@ use Rattle.chain.specs.Connectives.{Quantifier, through, Permits, within?}
 use Rattle.semantics.specs.Terms.{term}
 use Rattle.semantics.specs.Quantified.{quantified, eachQuantified?}
 use Rattle.semantics.specs.Interpretations.{Grading}
-use Rattle.semantics.specs.Candidates.{gradeIn}
 
 -- the terms of the role t bound the links of the role r
 abbrev pub Governs : Grading → (t r : ℕ) → Type 0
@@ -41,7 +40,3 @@ module _ (G : Grading) (r : ℕ) (own child : ℕ → ℕ) where
   unfoldable pub linkBetween : ℕ
   unfolding allows? greatest
   linkBetween = greatest allows? (G .steps)
-
--- between two candidates
-abbrev pub link : Grading → (r c d : ℕ) → ℕ
-link G r c d = linkBetween G r (gradeIn G c) (gradeIn G d)

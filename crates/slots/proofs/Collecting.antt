@@ -16,8 +16,8 @@ use Rattle.chain.proofs.Search.{rank-yes, rank-mono}
 use Rattle.semantics.specs.Terms.{Term, term}
 use Rattle.semantics.specs.Quantified.{quantified}
 use Rattle.semantics.specs.Interpretations.{Grading}
-use Rattle.semantics.specs.Candidates.{place, quantifying, candidates, places, opens?}
-use Rattle.semantics.proofs.Candidates.{home-quantifying}
+use Rattle.types.specs.Candidates.{place, quantifying, candidates, places, opens?}
+use Rattle.types.proofs.Candidates.{home-quantifying}
 use Rattle.sections.specs.Terms.{quantifierOf, kindAt, aAt, bAt, termCount, termsOf}
 use Rattle.sections.proofs.Terms.{length-terms, quantified-term, other-term}
 use Rattle.slots.specs.Slots.{slotCount, slotKind, slotRole, slotChild, slotTerm, SlotsOf}

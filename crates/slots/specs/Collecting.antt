@@ -8,7 +8,7 @@ use Rattle.chain.specs.Search.{rank}
 use Rattle.chain.specs.Connectives.{Quantifier}
 use Rattle.semantics.specs.Terms.{Term, term}
 use Rattle.semantics.specs.Quantified.{quantified}
-use Rattle.semantics.specs.Candidates.{opens?}
+use Rattle.types.specs.Candidates.{opens?}
 use Rattle.sections.specs.Terms.{quantifierOf}
 use Rattle.slots.specs.Slots.{slotKind, slotRole, slotChild, slotTerm}
 

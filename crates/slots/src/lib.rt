@@ -2,7 +2,7 @@
 ghost use mathlib.Core.Path.{_≡_};
 ghost use Prim.Native.Nat.{ℕ, _+_, _*_, _<_, _≤_};
 ghost use lib.ListN.{length, getD, take};
-ghost use Rattle.semantics.specs.Candidates.{places};
+ghost use Rattle.types.specs.Candidates.{places};
 ghost use Rattle.sections.specs.Terms.{termCount, termsOf};
 ghost use Rattle.slots.specs.Slots.{slotCount, SlotsOf};
 ghost use Rattle.slots.specs.Rows.{TermsBelow, SlotRow};

@@ -8,9 +8,9 @@ use Rattle.chain.specs.Connectives.{Quantifier}
 use Rattle.semantics.specs.Terms.{Term, term, Ordered}
 use Rattle.semantics.specs.Quantified.{quantified}
 use Rattle.semantics.specs.Interpretations.{Grading}
-use Rattle.semantics.specs.Candidates.{gradeIn}
 use Rattle.semantics.specs.Links.{Allows}
 use Rattle.semantics.proofs.Quantified.{quantified-alike}
+use Rattle.types.specs.Candidates.{gradeIn}
 use Rattle.gradings.specs.Gradings.{grading}
 use Rattle.gradings.proofs.Gradings.{grading-well-formed}
 use Rattle.slots.specs.Slots.{slotCount, slotRole, slotChild, slotTerm, slotQuantifier, SlotsOf}

@@ -6,7 +6,7 @@ use mathlib.Core.List.{List}
 use Prim.Native.Nat.{ℕ, _+_, _*_, _≤_, _<_}
 use lib.ListN.{length, getD}
 use Rattle.semantics.specs.Terms.{Term}
-use Rattle.semantics.specs.Candidates.{gradeIn}
+use Rattle.types.specs.Candidates.{gradeIn}
 use Rattle.gradings.specs.Gradings.{grading}
 use Rattle.gradings.specs.declared.Logic.{Logic}
 use Rattle.zones.specs.Zones.{Zoned}

@@ -18,16 +18,17 @@ use Rattle.gradings.specs.Gradings.{grading}
 use Rattle.gradings.specs.declared.Logic.{Logic}
 use Rattle.book.specs.Layout.{termBytes}
 use Rattle.book.specs.Reading.{bookOf}
-use Rattle.book.specs.Opening.{bookQuestions, candidateQuestions, Right}
+use Rattle.book.specs.Opening.{bookQuestions, Right}
 use Rattle.book.specs.declared.Sections.{Sections}
 use Rattle.book.proofs.Reading.{right-counts, right-names, right-roles, right-individuals}
+use Rattle.counter.specs.Counting.{candidateQuestions}
+use Rattle.working.specs.Working.{verdictOf}
+use Rattle.working.specs.declared.Verdict.the-variants.{Meets}
 use Rattle.sheets.specs.Layout.{endAt}
 use Rattle.sheets.specs.Writing.{shapeFor, sheetBytes}
 use Rattle.sheets.specs.declared.Shape.{Shape}
 use Rattle.sheets.specs.Opening.{SheetRight}
 use Rattle.sheets.specs.Reading.{sheetOf}
-use Rattle.working.specs.Working.{verdictOf}
-use Rattle.working.specs.declared.Verdict.the-variants.{Meets}
 use Rattle.sheets.proofs.Bounds.{few-end}
 use Rattle.sheets.proofs.Writing.{length-sheet, sheet-right, sheet-meets}
 use Rattle.elimination.specs.Listed.{typesIn}

@@ -6,17 +6,18 @@ ghost use Prim.Native.Nat.{_<_, _≤_};
 ghost use lib.ListN.{length, take, drop};
 ghost use Rattle.chain.specs.Questions.{firstNo};
 ghost use Rattle.semantics.specs.Books.{nameCount, roleCount, individuals as individualsOf};
-ghost use Rattle.book.specs.Opening.{Right, countedOf};
+ghost use Rattle.book.specs.Opening.{Right};
 ghost use Rattle.book.specs.Reading.{bookOf};
-ghost use Rattle.book.specs.declared.Counted.the-variants.{Candidates};
+ghost use Rattle.counter.specs.Counting.{countedOf};
+ghost use Rattle.counter.specs.declared.Counted.the-variants.{Candidates};
 ghost use Rattle.sheets.specs.Layout.{endAt};
 ghost use Rattle.elimination.specs.Marks.{marked};
 ghost use Rattle.placement.specs.Outcome.{survivorsOf, outcome as outcomeOf, placement as placementOf};
 ghost use Rattle.decider.specs.Deciding.{marksAfter, placementAfter, HoldsPlacement};
 ghost use Rattle.writer.specs.Writing.{modelBytes, modelQuestions, written, writtenIn, writtenOf, sheetAfter};
-use book::Counted;
 use book::Opened;
 use book::Sections;
+use counter::Counted;
 use decider::Decision;
 use sheets::Shape;
 
@@ -170,7 +171,7 @@ pub fn write_in(
     ensures { λ _. ⌜ now (sheet .exit) ≡ sheetAfter (now (b .entry)) (length (now (marks .entry))) (length (now (placement .entry))) (now (sheet .entry)) ⌝ }
 {
     let mut seats = [0u16; 8];
-    match book::count_in(b, s) {
+    match counter::count_in(b, s) {
         Counted::Refused(n) => Written::Refused(n),
         Counted::Candidates(k) => write_counted(b, s, k, marks, placement, &mut seats, sheet),
     }

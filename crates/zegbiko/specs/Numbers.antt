@@ -4,8 +4,8 @@
 use Prim.Native.Nat.{ℕ}
 use Rattle.book.specs.declared.Opened.{Opened}
 use Rattle.book.specs.declared.Opened.the-variants.{Refused, Accepted}
-use Rattle.book.specs.declared.Counted.{Counted}
-use Rattle.book.specs.declared.Counted.the-variants.{Refused as NotCounted, Candidates}
+use Rattle.counter.specs.declared.Counted.{Counted}
+use Rattle.counter.specs.declared.Counted.the-variants.{Refused as NotCounted, Candidates}
 use Rattle.decider.specs.declared.Decision.{Decision}
 use Rattle.decider.specs.declared.Decision.the-variants.{Refused as NotDecided, Decided}
 use Rattle.writer.specs.declared.Written.{Written}

@@ -8,12 +8,14 @@ use Rattle.chain.specs.Decisions.{says, dec-and}
 use Rattle.chain.specs.Lists.{each?}
 use Rattle.chain.specs.Questions.{firstNo, TellsFirstNo, orZero}
 use Rattle.chain.proofs.Questions.{tells-first-no}
-use Rattle.book.specs.Opening.{bookQuestions, candidateQuestions, openedOf, countedOf, openedNumber, countedNumber}
+use Rattle.book.specs.Opening.{bookQuestions, openedOf, openedNumber}
 use Rattle.book.specs.declared.Opened.{Opened}
 use Rattle.book.specs.declared.Opened.the-variants.{Refused, Accepted}
-use Rattle.book.specs.declared.Counted.{Counted}
-use Rattle.book.specs.declared.Counted.the-variants.{Refused as NotCounted, Candidates}
-use Rattle.book.proofs.Opening.{openedNumber-is, countedNumber-is}
+use Rattle.book.proofs.Opening.{openedNumber-is}
+use Rattle.counter.specs.Counting.{candidateQuestions, countedOf, countedNumber}
+use Rattle.counter.specs.declared.Counted.{Counted}
+use Rattle.counter.specs.declared.Counted.the-variants.{Refused as NotCounted, Candidates}
+use Rattle.counter.proofs.Counting.{countedNumber-is}
 use Rattle.decider.specs.Deciding.{decideQuestions, decisionOf, decisionNumber}
 use Rattle.decider.specs.declared.Decision.{Decision}
 use Rattle.decider.specs.declared.Decision.the-variants.{Refused as NotDecided, Decided}

@@ -2,16 +2,17 @@
 // and a length.
 ghost use mathlib.Core.Path.{_≡_};
 ghost use lib.ListN.{length};
-ghost use Rattle.book.specs.Opening.{openedOf, countedOf};
+ghost use Rattle.book.specs.Opening.{openedOf};
+ghost use Rattle.counter.specs.Counting.{countedOf};
 ghost use Rattle.checker.specs.Asking.{gradeAnswer, linkAnswer};
 ghost use Rattle.checker.specs.Working.{workedOf, gridAfter};
 ghost use Rattle.decider.specs.Deciding.{decisionOf, marksAfter, placementAfter};
 ghost use Rattle.writer.specs.Writing.{writtenOf, sheetAfter};
 ghost use Rattle.zegbiko.specs.Numbers.{checkedNumber, countedNumbers, decidedNumbers, writtenNumbers, verdictNumbers, workedNumbers, gradedNumbers};
-use book::Counted;
 use book::Opened;
 use checker::Answer;
 use checker::Worked;
+use counter::Counted;
 use decider::Decision;
 use working::Verdict;
 use writer::Written;
@@ -180,7 +181,7 @@ pub extern "C" fn zegbiko_check(b: &[u8]) -> u8
 pub extern "C" fn zegbiko_count(b: &[u8]) -> CountedNumbers
     ensures { λ r. ⌜ r ≡ countedNumbers (countedOf (now (b .entry))) ⌝ }
 {
-    counted_numbers(book::count(b))
+    counted_numbers(counter::count(b))
 }
 
 // Decides a book.

@@ -3,8 +3,9 @@
 use mathlib.Core.Path.{sym}
 use native.Mathlib.Omega.{arith}
 use borrow.Author.Needs.{needs}
-use Rattle.book.specs.Opening.{candidateQuestions}
-use Rattle.book.proofs.Opening.{right-ordered, counted-candidates}
+use Rattle.book.proofs.Opening.{right-ordered}
+use Rattle.counter.specs.Counting.{candidateQuestions}
+use Rattle.counter.proofs.Counting.{counted-candidates}
 use Rattle.checker.specs.Asking.{linkAnswer}
 use Rattle.checker.proofs.Asking.{answered-first, answered-second, answered-both, terms-fit}
 use Rattle.checker.proofs.link_counted.Statement.{statement}

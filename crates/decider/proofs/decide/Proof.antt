@@ -3,7 +3,8 @@
 use mathlib.Core.Path.{sym, _∙_}
 use lib.ListN.{length}
 use borrow.Author.Needs.{needs}
-use Rattle.book.proofs.Opening.{opened-accepted, counted-declined, counted-refused}
+use Rattle.book.proofs.Opening.{opened-accepted}
+use Rattle.counter.proofs.Counting.{counted-declined, counted-refused}
 use Rattle.decider.proofs.Deciding.{decide-before, refused}
 use Rattle.decider.proofs.decide.Statement.{statement}
 use Rattle.decider.proofs.decide.Tie as tie

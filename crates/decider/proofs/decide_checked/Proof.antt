@@ -7,7 +7,7 @@ use native.Mathlib.Omega.{arith}
 use lib.Seq.{length-take-le}
 use lib.ListN.{take}
 use borrow.Author.Needs.{needs}
-use Rattle.semantics.specs.Candidates.{places}
+use Rattle.types.specs.Candidates.{places}
 use Rattle.decider.proofs.Equipped.{places-fit}
 use Rattle.book.proofs.Reading.{right-terms, right-few}
 use Rattle.book.proofs.Opening.{right-ordered}

@@ -4,7 +4,7 @@ use mathlib.Core.Path.{_∙_}
 use native.Mathlib.Omega.{arith}
 use lib.ListN.{length}
 use borrow.Author.Needs.{needs}
-use Rattle.book.proofs.Opening.{counted-candidates, counted-small}
+use Rattle.counter.proofs.Counting.{counted-candidates, counted-small}
 use Rattle.decider.proofs.Deciding.{decide-11, decide-12, decide-none, refused, refused-other, settled}
 use Rattle.decider.proofs.decide_counted.Statement.{statement}
 use Rattle.decider.proofs.decide_counted.Tie as tie

@@ -4,7 +4,7 @@ use mathlib.Core.Path.{sym, _∙_}
 use native.Mathlib.Omega.{arith}
 use lib.ListN.{length}
 use borrow.Author.Needs.{needs}
-use Rattle.book.proofs.Opening.{counted-declined}
+use Rattle.counter.proofs.Counting.{counted-declined}
 use Rattle.decider.proofs.Deciding.{decide-before, refused}
 use Rattle.decider.proofs.decide_in.Statement.{statement}
 use Rattle.decider.proofs.decide_in.Tie as tie

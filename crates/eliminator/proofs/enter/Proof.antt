@@ -4,7 +4,7 @@ use mathlib.Core.Path.{sym, subst}
 use native.Mathlib.Omega.{arith}
 use lib.ListN.{length}
 use borrow.Author.Needs.{needs}
-use Rattle.semantics.specs.Candidates.{gradeIn}
+use Rattle.types.specs.Candidates.{gradeIn}
 use Rattle.sections.specs.Terms.{termsOf}
 use Rattle.sections.specs.Rules.{RulesRight}
 use Rattle.sections.proofs.Terms.{length-terms, terms-ordered}

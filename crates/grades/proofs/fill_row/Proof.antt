@@ -10,7 +10,7 @@ use borrow.Author.Needs.{needs}
 use Rattle.chain.specs.Lists.{table}
 use Rattle.chain.proofs.Lists.{length-table, zero-filled, length-filled, take-filled, set-filled}
 use Rattle.gradings.specs.Gradings.{grading}
-use Rattle.semantics.specs.Candidates.{gradeIn}
+use Rattle.types.specs.Candidates.{gradeIn}
 use Rattle.sections.specs.Terms.{termCount, termsOf}
 use Rattle.grades.proofs.Rows.{row-terms}
 use Rattle.grades.proofs.OneTerm.{restAt, rest-start, rest-next, earlier, earlier-le, grade-next}

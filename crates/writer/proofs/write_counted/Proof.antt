@@ -7,7 +7,7 @@ use native.Mathlib.Omega.{arith}
 use lib.ListN.{length}
 use borrow.Author.Needs.{needs}
 use Rattle.book.specs.Reading.{bookOf}
-use Rattle.book.proofs.Opening.{counted-candidates, counted-small}
+use Rattle.counter.proofs.Counting.{counted-candidates, counted-small}
 use Rattle.elimination.specs.Marks.{marked}
 use Rattle.decider.proofs.Deciding.{decision-refused, decision-decided, decide-room, marked-in, settled}
 use Rattle.writer.proofs.Writing.{write-refused, write-decided}

@@ -4,7 +4,7 @@ use mathlib.Core.Path.{sym, _∙_}
 use native.Mathlib.Omega.{arith}
 use lib.ListN.{length}
 use borrow.Author.Needs.{needs}
-use Rattle.book.proofs.Opening.{counted-declined}
+use Rattle.counter.proofs.Counting.{counted-declined}
 use Rattle.decider.proofs.Deciding.{decide-before, refused}
 use Rattle.writer.proofs.Writing.{write-refused}
 use Rattle.writer.proofs.write_in.Statement.{statement}

@@ -1,4 +1,4 @@
--- `opened::Book::count` meets its contract: a walk of its MIR, by hand. The opened book is taken apart, and `book::count_in` is called on its fields and the other parameters. All that the proof knows of `count_in` is that it meets its contract.
+-- `opened::Book::count` meets its contract: a walk of its MIR, by hand. The opened book is taken apart, and `counter::count_in` is called on its fields and the other parameters. All that the proof knows of `count_in` is that it meets its contract.
 -- Assumes nothing.
 use mathlib.Core.Path.{_≡_, refl}
 use mathlib.Core.List.{[], _∷_}
@@ -37,20 +37,21 @@ use denote.Triple.Walked.{says, needs, Stays, stay-none, walkOf, goes-none, Walk
 use denote.Exit.{yes}
 use denote.Signature.{namedLft}
 use denote.Triple.Clauses.{ensured, lasts}
-use Rattle.book.specs.Opening.{Right, countedOf}
-use Rattle.book.specs.declared.Counted.{Counted}
-use Rattle.book.proofs.Counted as S
-use Rattle.book.proofs.Counted.Laws as S′
+use Rattle.book.specs.Opening.{Right}
 use Rattle.book.proofs.Sections as P
 use Rattle.book.proofs.Sections.Laws as P′
+use Rattle.counter.specs.Counting.{countedOf}
+use Rattle.counter.specs.declared.Counted.{Counted}
+use Rattle.counter.proofs.Counted as S
+use Rattle.counter.proofs.Counted.Laws as S′
 use Rattle.opened.specs.declared.Book.{Book}
 use Rattle.opened.proofs.Book as T
 use Rattle.opened.proofs.Book.Laws as T′
 use Rattle.opened.proofs.Held.{Parts, opens}
-use Rattle.book.proofs.count_in as callee
-use Rattle.book.proofs.count_in.Symbol as callee-def
-use Rattle.book.proofs.count_in.Symbol.{name as #callee}
-use Rattle.book.proofs.count_in.Met as callee-thm
+use Rattle.counter.proofs.count_in as callee
+use Rattle.counter.proofs.count_in.Symbol as callee-def
+use Rattle.counter.proofs.count_in.Symbol.{name as #callee}
+use Rattle.counter.proofs.count_in.Met as callee-thm
 use Rattle.opened.proofs.Book.count.Key.{name as #question}
 use Rattle.opened.proofs.Book.count as question
 use Rattle.opened.proofs.Book.count.Statement as stated
@@ -154,4 +155,4 @@ count-spec 𝓤 H 𝓜 𝓖 𝓡 =
     entered 𝓤 H (tripleOf 𝓤 H (𝓖 .A) question.signature (question.spec 𝓤 H (𝓖 .A) (𝓜 .mem) (𝓡 .run)))
     (tables 𝓤 H 𝓜 𝓡 code.env .C) (tables 𝓤 H 𝓜 𝓡 code.env .Λ) #question code.function (code.unfolded 𝓤 H 𝓜 𝓡)
     (meets 𝓤 H (𝓖 .A) (givenOf 𝓤 H 𝓜 𝓖) (𝓜 .mem) (𝓡 .run) (tablesOf 𝓤 H 𝓜 (tables 𝓤 H 𝓜 𝓡 code.env))
-    (cited 𝓤 H (Callee 𝓤 H (𝓖 .A) (𝓜 .mem) (𝓡 .run)) 𝓜 𝓡 code.env #callee callee-def.routine code.calls-book·count-in (callee-thm.met 𝓤 H 𝓜 𝓖 𝓡)))
+    (cited 𝓤 H (Callee 𝓤 H (𝓖 .A) (𝓜 .mem) (𝓡 .run)) 𝓜 𝓡 code.env #callee callee-def.routine code.calls-counter·count-in (callee-thm.met 𝓤 H 𝓜 𝓖 𝓡)))

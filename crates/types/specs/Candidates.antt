@@ -49,10 +49,6 @@ module _ (ts : List Term) where
   unfoldable pub bearer : (a : ℕ) → First (named? a) (length ts)
   unfolding named?
   bearer a = first (named? a) (length ts)
-
-  -- "A name number stands in at most one term" (check 6)
-  abbrev pub NamesApart : Type 0
-  NamesApart = (i j a : ℕ) → i < length ts → j < length ts → term ts i ≡ name a → term ts j ≡ name a → i ≡ j
 
   -- how many of the terms before number i are places
   unfoldable pub placesBefore : ℕ → ℕ

@@ -1,15 +1,16 @@
--- `book::count_in` meets its contract.
+-- `counter::count_in` meets its contract.
 -- Assumes nothing.
 use mathlib.Core.List.{List}
 use mathlib.Core.Path.{sym, subst, _∙_}
 use Prim.Native.Nat.{ℕ}
 use native.Mathlib.Omega.{arith}
 use borrow.Author.Needs.{needs}
-use Rattle.sections.specs.Terms.{TermsRight}
-use Rattle.book.proofs.Opening.{right-ordered, right-steps, counted-few, counted-many}
 use Rattle.powers.proofs.Bounded.{exactly-bounded, more-bounded}
-use Rattle.book.proofs.count_in.Statement.{statement}
-use Rattle.book.proofs.count_in.Tie as tie
+use Rattle.sections.specs.Terms.{TermsRight}
+use Rattle.book.proofs.Opening.{right-ordered, right-steps}
+use Rattle.counter.proofs.Counting.{counted-few, counted-many}
+use Rattle.counter.proofs.count_in.Statement.{statement}
+use Rattle.counter.proofs.count_in.Tie as tie
 
 terms-in-requires : tie.Need-terms-in-requires
 terms-in-requires c κs = right-ordered _ _ (c .before .pre)

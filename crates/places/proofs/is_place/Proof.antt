@@ -1,10 +1,10 @@
--- `sections::is_place` meets its contract. Kinds 0, 4 and 5 are the places.
+-- `places::is_place` meets its contract. Kinds 0, 4 and 5 are the places.
 -- Assumes nothing.
 use borrow.Author.Needs.{needs}
 use Rattle.chain.proofs.Decisions.{tells-yes, tells-no}
-use Rattle.sections.proofs.Terms.{place-kind, other-kind}
-use Rattle.sections.proofs.is_place.Statement.{statement}
-use Rattle.sections.proofs.is_place.Tie as tie
+use Rattle.places.proofs.Places.{place-kind, other-kind}
+use Rattle.places.proofs.is_place.Statement.{statement}
+use Rattle.places.proofs.is_place.Tie as tie
 
 mul-kind : tie.Need-mul-kind
 mul-kind c = search needs

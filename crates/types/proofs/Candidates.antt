@@ -10,11 +10,11 @@ use Rattle.chain.specs.Search.{First, rank}
 use Rattle.chain.specs.Digits.{digit}
 use Rattle.chain.proofs.Search.{strong, rank-yes, rank-no, rank-lt, rank-onto, rank-same, select-rank, select-lt}
 use Rattle.chain.proofs.Digits.{digit-lt, encode-lt, digit-encode, digits-inj}
-use Rattle.semantics.specs.Terms.{Term, name, not, and, or, some, all, top, bottom, term, Children, local}
+use Rattle.semantics.specs.Terms.{Term, name, not, and, or, some, all, top, bottom, term, Children, NamesApart, local}
 use Rattle.semantics.specs.Interpretations.{Grading, WellFormed, Interpretation, OnChain, gradeAt}
-use Rattle.semantics.specs.Candidates.{Place, named, quantifying, place, named?, bearer, OpensAs, Opens, opens?, places, homeAs, home, slot, base, candidates, inCandidate, gradeIn, HasType, placeGrade, typeOf, NamesApart, IsPlace, isPlace?, placesBefore}
 use Rattle.semantics.proofs.Terms.{value-local, value-unique}
 use Rattle.semantics.proofs.Interpretations.{gradeAt-local, gradeAt-le}
+use Rattle.types.specs.Candidates.{Place, named, quantifying, place, named?, bearer, OpensAs, Opens, opens?, places, homeAs, home, slot, base, candidates, inCandidate, gradeIn, HasType, placeGrade, typeOf, IsPlace, isPlace?, placesBefore}
 
 module _ (ts : List Term) where
   -- a name has a home, which is a term with that name; a quantified term is its own

@@ -1,16 +1,16 @@
--- `counts::count_places` meets its contract. `found` is the number of places before term `i`.
+-- `places::count_places` meets its contract. `found` is the number of places before term `i`.
 -- Assumes nothing.
 use mathlib.Core.Logic.{⊎-elim}
 use mathlib.Core.Path.{_≡_, sym, ap, _∙_}
 use Prim.Native.Nat.{ℕ, _≤_, _+_, _-_}
 use native.Mathlib.Omega.{arith}
 use borrow.Author.Needs.{needs}
-use Rattle.semantics.specs.Candidates.{placesBefore}
-use Rattle.semantics.proofs.Candidates.{placesBefore-zero}
+use Rattle.types.specs.Candidates.{placesBefore}
+use Rattle.types.proofs.Candidates.{placesBefore-zero}
 use Rattle.sections.specs.Terms.{termCount, termsOf}
-use Rattle.counts.proofs.Counts.{places-more, places-same}
-use Rattle.counts.proofs.count_places.Statement.{statement}
-use Rattle.counts.proofs.count_places.Tie as tie
+use Rattle.places.proofs.Places.{places-more, places-same}
+use Rattle.places.proofs.count_places.Statement.{statement}
+use Rattle.places.proofs.count_places.Tie as tie
 
 abbrev Inv-loop : tie.InvT-loop
 Inv-loop s count found₀ i₀ found i = (i ≤ termCount s) × (found ≡ placesBefore (termsOf s) i) × (found ≤ i)

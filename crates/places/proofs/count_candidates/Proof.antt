@@ -1,12 +1,12 @@
--- `counts::count_candidates` meets its contract.
+-- `places::count_candidates` meets its contract.
 -- Assumes nothing.
 use mathlib.Core.Path.{ap, _∙_}
 use Prim.Native.Nat.{ℕ, _+_, _^_}
 use borrow.Author.Needs.{needs}
 use Rattle.powers.specs.Bounded.{bounded}
-use Rattle.counts.proofs.Counts.{candidates-of}
-use Rattle.counts.proofs.count_candidates.Statement.{statement}
-use Rattle.counts.proofs.count_candidates.Tie as tie
+use Rattle.places.proofs.Places.{candidates-of}
+use Rattle.places.proofs.count_candidates.Statement.{statement}
+use Rattle.places.proofs.count_candidates.Tie as tie
 
 count-places-requires : tie.Need-count-places-requires
 count-places-requires c κs = search needs

@@ -1,10 +1,11 @@
--- `book::count` meets its contract.
+-- `counter::count` meets its contract.
 -- Assumes nothing.
 use mathlib.Core.Path.{sym, _∙_}
 use borrow.Author.Needs.{needs}
-use Rattle.book.proofs.Opening.{opened-accepted, counted-refused}
-use Rattle.book.proofs.count.Statement.{statement}
-use Rattle.book.proofs.count.Tie as tie
+use Rattle.book.proofs.Opening.{opened-accepted}
+use Rattle.counter.proofs.Counting.{counted-refused}
+use Rattle.counter.proofs.count.Statement.{statement}
+use Rattle.counter.proofs.count.Tie as tie
 
 open-requires : tie.Need-open-requires
 open-requires c κs = search needs

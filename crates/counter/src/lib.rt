@@ -1,0 +1,34 @@
+// Counts a book's candidates.
+ghost use mathlib.Core.Path.{_≡_};
+ghost use Rattle.book.specs.Opening.{Right};
+ghost use Rattle.counter.specs.Counting.{countedOf};
+use book::Opened;
+use book::Sections;
+use powers::Power;
+
+// The number of the first check that says no, or how many candidates there are.
+pub enum Counted {
+    Refused(u8),
+    Candidates(u64),
+}
+
+// The number of candidates of an accepted book whose sections are `s`, or the refusal 10.
+pub fn count_in(b: &[u8], s: Sections) -> Counted
+    requires { ⌜ Right (now b) s ⌝ }
+    ensures { λ r. ⌜ r ≡ countedOf (now (b .entry)) ⌝ }
+{
+    match places::count_candidates(book::terms_in(b, s), s.steps) {
+        Power::Exactly(n) => Counted::Candidates(n),
+        Power::More => Counted::Refused(10),
+    }
+}
+
+// Checks a book, 1 to 10, and counts its candidates.
+pub fn count(b: &[u8]) -> Counted
+    ensures { λ r. ⌜ r ≡ countedOf (now (b .entry)) ⌝ }
+{
+    match book::open(b) {
+        Opened::Refused(n) => Counted::Refused(n),
+        Opened::Accepted(s) => count_in(b, s),
+    }
+}
