@@ -7,7 +7,7 @@ use Prim.Native.Char.{code}
 use Prim.Native.String.{String, [] as empty, _∷_ as _followed_}
 use Prim.Native.Nat.{ℕ, zero, suc, _+_, _*_, _-_, _/_, _%_}
 use native.Mathlib.Decide.{decLt}
-use lib.ListN.{length, take}
+use lib.ListN.{length, take, drop}
 
 -- a text's bytes: the texts here are ASCII
 unfoldable pub bytes : String → List ℕ
@@ -34,7 +34,8 @@ valueAfter n [] = n
 valueAfter n (d ∷ ds) = valueAfter (10 * n + (d - 48)) ds
 
 -- What code promises that adds text to a buffer at a place: up to the text's end, the new place, the buffer has what stood before the place,
--- and then the text.
+-- and then the text; the bytes past it are kept.
 pub record Added (before : List ℕ) (at : ℕ) (text after : List ℕ) (end : ℕ) : Type 0 where
   pub ends : end ≡ at + length text
   pub holds : take end after ≡ take at before ++ text
+  pub kept : drop end after ≡ drop end before

@@ -28,8 +28,18 @@ same-length c = search needs
 
 returns : tie.Need-returns
 unfolding individualLine labelled newline bytes
-returns c =
-    (added-then (c .before .before .before .before .before .before .before .before .before .before .before .put-labelled .ensures .0) (added-then (c .before .before .before .before .before .before .put-labelled2 .ensures .0) (c .before .before .put-newline .ensures)), omega (arith, c .before .before .before .before .before .before .before .before .before .before .before .put-labelled .ensures .1, c .before .before .before .before .before .before .put-labelled2 .ensures .1, c .before .before .put-newline .ensures .ends))
+returns c = (
+  added-then (c .before .before .before .before .before .before .before .before .before .before .before .put-labelled .ensures .0)
+      (added-then (c .before .before .before .before .before .before .put-labelled2 .ensures .0)
+      (c .before .before .put-newline .ensures)),
+  omega (
+    arith,
+    c .before .before .before .before .before .before .before .before .before .before .before .put-labelled .ensures .1,
+    c .before
+        .before .before .before .before .before .put-labelled2 .ensures .1,
+    c .before .before .put-newline .ensures .ends,
+  ),
+)
 
 pub individual-line-spec : {M : Type 1} → statement M
 individual-line-spec =

@@ -32,7 +32,10 @@ same-length c = search needs
 returns : tie.Need-returns
 unfolding typeLine labelled newline bytes
 returns c = (
-  added-then (c .before .before .before .before .before .before .before .before .before .before .before .before .before .before .before .put-labelled .ensures .0) (added-then (c .before .before .before .before .before .before .before .before .before .before .put-text .ensures) (added-then (c .before .before .before .before .before .before .put-grades .ensures .0) (c .before .before .put-newline .ensures))),
+  added-then
+      (c .before .before .before .before .before .before .before .before .before .before .before .before .before .before .before .put-labelled
+      .ensures .0) (added-then (c .before .before .before .before .before .before .before .before .before .before .put-text .ensures)
+      (added-then (c .before .before .before .before .before .before .put-grades .ensures .0) (c .before .before .put-newline .ensures))),
   omega (arith, c .before .before .before .before .before .before .before .before .before .before .before .before .before .before .before .put-labelled .ensures .1, c .before .before .before .before .before .before .before .before .before .before .put-text .ensures .ends, c .before .before .before .before .before .before .put-grades .ensures .1, c .before .before .put-newline .ensures .ends),
 )
 
