@@ -15,12 +15,12 @@ use Rattle.grades.specs.Rows.{entry}
 use Rattle.network.specs.declared.Constraint.{Constraint}
 use Rattle.boxes.specs.Boxes.{OnChain, Asks}
 use Rattle.boxes.proofs.Boxes.{asks-to, asks-from}
-use Rattle.network.specs.Constraints.{constraintCount, Met, Right}
+use Rattle.network.specs.Constraints.{constraintCount, Met, ConstraintRight}
 use Rattle.network.specs.Network.{constraintsOf, Laid}
 
 -- ---- what one constraint asks
 
-module _ (lg : Logic) (m : ℕ) (k : Constraint) (right : Right lg m k) where
+module _ (lg : Logic) (m : ℕ) (k : Constraint) (right : ConstraintRight lg m k) where
   -- its kind's direction
   some-way : k .kind ≡ 4 → (x y : ℕ) → (x ≤ y) ↔ WithinOf (quantifierOf (k .kind)) x y
   some-way e x y = by-some (λ q. (x ≤ y) ↔ WithinOf q x y) (k .kind) e (λ h. h, λ h. h)

@@ -2,9 +2,8 @@
 ghost use mathlib.Core.Path.{_≡_};
 ghost use Prim.Native.Nat.{ℕ, _+_, _*_, _<_, _≤_};
 ghost use lib.ListN.{length};
-ghost use Rattle.chain.specs.Decisions.{Tells};
 ghost use Rattle.network.specs.Rows.{rowAt};
-ghost use Rattle.network.specs.Constraints.{constraintCount, Met, AllMet, Right, AllRight};
+ghost use Rattle.network.specs.Constraints.{constraintCount, Met, AllMet, ConstraintRight, AllRight};
 ghost use Rattle.domains.specs.Gaps.{GapsFrom, Gaps};
 ghost use Rattle.domains.specs.Consistent.{FitsBy, Problem, Graded};
 ghost use Rattle.boxes.specs.Boxes.{OnChain, boundCount, boundAt, Asks, Narrowed};
@@ -28,7 +27,7 @@ use network::row_at;
 // What a constraint asks of the target's row where the source has this one: that the child is not above, or not below, the edge of those that
 // permit the link.
 fn bound_target(logic: Logic, k: Constraint, columns: usize, source: &[u8]) -> Bound
-    requires { ⌜ Right logic columns k × (columns ≤ length (now source)) × OnChain logic columns (now source) ⌝ }
+    requires { ⌜ ConstraintRight logic columns k × (columns ≤ length (now source)) × OnChain logic columns (now source) ⌝ }
     ensures { λ r. ⌜ Asks logic columns (Met logic k (now (source .entry))) r ⌝ }
 {
     let own = source[wide(k.own)];
@@ -49,7 +48,7 @@ fn bound_target(logic: Logic, k: Constraint, columns: usize, source: &[u8]) -> B
 
 // What it asks of the source's row where the target has this one: that the own grade is not below, or not above, what it takes from the child.
 fn bound_source(logic: Logic, k: Constraint, columns: usize, target: &[u8]) -> Bound
-    requires { ⌜ Right logic columns k × (columns ≤ length (now target)) ⌝ }
+    requires { ⌜ ConstraintRight logic columns k × (columns ≤ length (now target)) ⌝ }
     ensures { λ r. ⌜ Asks logic columns (λ v. Met logic k v (now (target .entry))) r ⌝ }
 {
     let child = target[wide(k.child)];

@@ -9,11 +9,12 @@ use lib.ListN.{length}
 use Rattle.chain.specs.Questions.{firstNo}
 use Rattle.chain.proofs.Questions.{first-empty, first-yes, first-no, first-none}
 use Rattle.sections.specs.Terms.{TermsRight}
-use Rattle.sections.specs.Rules.{RulesRight}
-use Rattle.sections.specs.Claims.{MembershipsRight, LinksRight}
-use Rattle.book.specs.Layout.{steps, sectionsOf, LengthRight, EditionRight, StepsRight, CountsRight, LaidOut, termBytes, ruleBytes, membershipBytes, linkBytes, termsIn}
+use Rattle.claims.specs.Rules.{RulesRight}
+use Rattle.claims.specs.Claims.{MembershipsRight, LinksRight}
+use Rattle.layout.specs.Layout.{steps, sectionsOf, LengthRight, EditionRight, StepsRight, CountsRight, LaidOut, termBytes, ruleBytes, membershipBytes, linkBytes, termsIn}
 use Rattle.book.specs.Opening.{bodyQuestions, bookQuestions, Accepts, Right, opened, openedOf, openedNumber}
-use Rattle.book.specs.declared.Sections.{Sections}
+use Rattle.layout.specs.declared.Sections.{Sections}
+use Rattle.book.specs.declared.Opened.{Opened}
 use Rattle.book.specs.declared.Opened.the-variants.{Refused, Accepted}
 
 -- ---- the bodies
@@ -160,3 +161,7 @@ openedNumber-is b = go (firstNo (bookQuestions b))
     go : (o : Option ℕ) → openedNumber (opened (sectionsOf b) o) ≡ o
     go none = refl
     go (some n) = refl
+
+-- what `open` promises, from its equation
+pub opened-answers : (b : List ℕ) (r : Opened) → r ≡ openedOf b → (r ≡ openedOf b) × (openedNumber r ≡ firstNo (bookQuestions b))
+opened-answers b r e = (e, ap openedNumber e ∙ openedNumber-is b)

@@ -11,14 +11,14 @@ use Rattle.semantics.specs.Books.{Book, Valid, nameAbove, roleAbove, linkRoles,
 use Rattle.semantics.specs.Terms.{NamesApart}
 use Rattle.semantics.proofs.Interpretations.{graded-well-formed}
 use Rattle.sections.specs.Terms.{termCount, termsOf}
-use Rattle.sections.specs.Claims.{membershipsOf, linksOf}
+use Rattle.claims.specs.Claims.{membershipsOf, linksOf}
 use Rattle.sections.proofs.Terms.{length-terms, terms-ordered, terms-apart, names-few, roles-few}
-use Rattle.sections.proofs.Rules.{rules-each}
-use Rattle.sections.proofs.Claims.{memberships-each, individuals-few, linkRoles-few}
-use Rattle.book.specs.Layout.{sectionsOf, CountsRight, termBytes, ruleBytes, membershipBytes, linkBytes, termsIn}
+use Rattle.claims.proofs.Rules.{rules-each}
+use Rattle.claims.proofs.Claims.{memberships-each, individuals-few, linkRoles-few}
+use Rattle.layout.specs.Layout.{sectionsOf, CountsRight, termBytes, ruleBytes, membershipBytes, linkBytes, termsIn}
 use Rattle.book.specs.Reading.{bookAt, bookOf}
 use Rattle.book.specs.Opening.{Accepts, Right}
-use Rattle.book.specs.declared.Sections.{Sections}
+use Rattle.layout.specs.declared.Sections.{Sections}
 use Rattle.book.proofs.Opening.{accepts-right, right-ordered}
 
 -- the number of terms is the count of their entry

@@ -12,11 +12,11 @@ use Rattle.encoding.specs.Words.{Bytes, wordAt, wordBytes}
 use Rattle.encoding.proofs.Words.{word-written}
 use Rattle.encoding.proofs.Stretches.{stretch-length, stretch-next}
 use Rattle.sections.specs.Terms.{termOf, Described}
-use Rattle.sections.specs.Claims.{senseOf, senseAt}
-use Rattle.sections.proofs.Terms.{terms-bytes}
-use Rattle.sections.proofs.Rules.{rules-bytes}
-use Rattle.sections.proofs.Claims.{memberships-bytes, links-bytes}
-use Rattle.book.specs.Layout.{countAt, sectionsOf, termBytes, ruleBytes, membershipBytes, linkBytes}
+use Rattle.claims.specs.Claims.{senseOf, senseAt}
+use Rattle.sections.proofs.Terms.{by-kind, described-kind, terms-bytes}
+use Rattle.claims.proofs.Rules.{rules-bytes}
+use Rattle.claims.proofs.Claims.{memberships-bytes, links-bytes}
+use Rattle.layout.specs.Layout.{countAt, sectionsOf, termBytes, ruleBytes, membershipBytes, linkBytes}
 use Rattle.book.specs.Reading.{bookOf}
 use Rattle.book.specs.Opening.{Accepts}
 use Rattle.book.specs.Writing.{termBytesOf, ruleBytesOf, senseByte, membershipBytesOf, linkBytesOf, bytesOf}
@@ -25,7 +25,17 @@ use Rattle.book.proofs.Opening.{accepts-right}
 -- ---- the bodies: each record is written as its bytes
 
 term-written : (i kind a b : ℕ) → Described i kind a b → termBytesOf (termOf kind a b) ≡ kind ∷ a ∷ b ∷ []
-term-written i kind a b d = cc
+term-written i kind a b d =
+    by-kind (λ k t. Described i k a b → termBytesOf t ≡ k ∷ a ∷ b ∷ []) a b
+    (λ d. ends (omega (arith, d .1))) (λ d. ends (omega (arith, d .1))) (λ _. refl) (λ _. refl) (λ _. refl) (λ _. refl)
+    (λ d. both 6 (omega (arith, d .0)) (omega (arith, d .1))) (λ d. both 7 (omega (arith, d .0)) (omega (arith, d .1)))
+    (λ k h d. absurd (omega (arith, described-kind i k a b d))) kind d
+  where
+    ends : {k x : ℕ} → b ≡ 0 → k ∷ x ∷ 0 ∷ [] ≡ k ∷ x ∷ b ∷ []
+    ends e = rw e
+
+    both : (k : ℕ) → a ≡ 0 → b ≡ 0 → k ∷ 0 ∷ 0 ∷ [] ≡ k ∷ a ∷ b ∷ []
+    both k e f = rw (e, f)
 
 sense-written : (k : ℕ) → k < 2 → senseByte (senseOf k) ≡ k
 sense-written zero h = refl

@@ -6,10 +6,10 @@ use mathlib.Core.List.{List, [], _∷_}
 use Prim.Native.Nat.{ℕ}
 use Rattle.chain.specs.Questions.{Question, ask, firstNo}
 use Rattle.sections.specs.Terms.{TermsRight, termsRight?}
-use Rattle.sections.specs.Rules.{RulesRight, rulesRight?}
-use Rattle.sections.specs.Claims.{MembershipsRight, membershipsRight?, LinksRight, linksRight?}
-use Rattle.book.specs.Layout.{sectionsOf, LengthRight, lengthRight?, EditionRight, editionRight?, StepsRight, stepsRight?, CountsRight, countsRight?, LaidOut, laidOut?, termBytes, ruleBytes, membershipBytes, linkBytes, termsIn}
-use Rattle.book.specs.declared.Sections.{Sections}
+use Rattle.claims.specs.Rules.{RulesRight, rulesRight?}
+use Rattle.claims.specs.Claims.{MembershipsRight, membershipsRight?, LinksRight, linksRight?}
+use Rattle.layout.specs.Layout.{sectionsOf, LengthRight, lengthRight?, EditionRight, editionRight?, StepsRight, stepsRight?, CountsRight, countsRight?, LaidOut, laidOut?, termBytes, ruleBytes, membershipBytes, linkBytes, termsIn}
+use Rattle.layout.specs.declared.Sections.{Sections}
 use Rattle.book.specs.declared.Opened.{Opened}
 use Rattle.book.specs.declared.Opened.the-variants.{Refused, Accepted}
 

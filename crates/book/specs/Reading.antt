@@ -5,9 +5,9 @@ use Prim.Native.Nat.{ℕ}
 use Rattle.semantics.specs.Interpretations.{graded}
 use Rattle.semantics.specs.Books.{Book, nameCount, roleCount, individuals}
 use Rattle.sections.specs.Terms.{termsOf}
-use Rattle.sections.specs.Books.{bookOfSections}
-use Rattle.book.specs.Layout.{sectionsOf, termBytes, ruleBytes, membershipBytes, linkBytes}
-use Rattle.book.specs.declared.Sections.{Sections}
+use Rattle.claims.specs.Books.{bookOfSections}
+use Rattle.layout.specs.Layout.{sectionsOf, termBytes, ruleBytes, membershipBytes, linkBytes}
+use Rattle.layout.specs.declared.Sections.{Sections}
 use Rattle.book.specs.declared.Counts.{Counts}
 
 -- the book whose sections stand in b at s

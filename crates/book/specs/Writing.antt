@@ -4,15 +4,21 @@ use mathlib.Core.List.{List, [], _∷_, _++_, flatMap}
 use Prim.Native.Nat.{ℕ, _+_, _*_}
 use lib.ListN.{length}
 use Rattle.encoding.specs.Words.{wordBytes}
-use Rattle.semantics.specs.Terms.{Term}
+use Rattle.semantics.specs.Terms.{Term, name, not, and, or, some, all, top, bottom}
 use Rattle.semantics.specs.Books.{Rule, Sense, at-least, at-most, MembershipClaim, LinkClaim, Book}
-use Rattle.sections.specs.Terms.{kindByte, aByte, bByte}
 
 -- ---- the records of the bodies
 
 -- "A term is three bytes: kind, a, b."
 abbrev pub termBytesOf : Term → List ℕ
-termBytesOf t = kindByte t ∷ aByte t ∷ bByte t ∷ []
+termBytesOf (name a) = 0 ∷ a ∷ 0 ∷ []
+termBytesOf (not c) = 1 ∷ c ∷ 0 ∷ []
+termBytesOf (and c d) = 2 ∷ c ∷ d ∷ []
+termBytesOf (or c d) = 3 ∷ c ∷ d ∷ []
+termBytesOf (some r c) = 4 ∷ r ∷ c ∷ []
+termBytesOf (all r c) = 5 ∷ r ∷ c ∷ []
+termBytesOf top = 6 ∷ 0 ∷ 0 ∷ []
+termBytesOf bottom = 7 ∷ 0 ∷ 0 ∷ []
 
 -- "rules (2: left, right)"
 abbrev pub ruleBytesOf : Rule → List ℕ

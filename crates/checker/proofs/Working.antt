@@ -16,10 +16,10 @@ use Rattle.semantics.specs.Books.{nameCount, roleCount, individuals}
 use Rattle.sections.specs.Terms.{termsOf}
 use Rattle.gradings.specs.Gradings.{grading}
 use Rattle.gradings.specs.declared.Logic.{Logic}
-use Rattle.book.specs.Layout.{termBytes, ruleBytes, membershipBytes, linkBytes, termsIn}
+use Rattle.layout.specs.Layout.{termBytes, ruleBytes, membershipBytes, linkBytes, termsIn}
 use Rattle.book.specs.Reading.{bookAt, bookOf, countsOf}
 use Rattle.book.specs.Opening.{bookQuestions, Accepts, Right, openedOf}
-use Rattle.book.specs.declared.Sections.{Sections}
+use Rattle.layout.specs.declared.Sections.{Sections}
 use Rattle.book.specs.declared.Counts.{Counts}
 use Rattle.book.specs.declared.Opened.the-variants.{Refused as Closed}
 use Rattle.book.proofs.Opening.{opened-refused, right-accepts}
@@ -31,7 +31,7 @@ use Rattle.sheets.specs.Reading.{sheetOf}
 use Rattle.sheets.specs.Opening.{sheetOpened}
 use Rattle.sheets.specs.declared.Shape.{Shape}
 use Rattle.sheets.specs.declared.Sheet.{Sheet}
-use Rattle.sheets.specs.declared.Sheet.the-variants.{Refused as Unfit, Right as Fits}
+use Rattle.sheets.specs.declared.Sheet.the-variants.{Refused as Unfit, Accepted as Fits}
 use Rattle.sheets.proofs.Opening.{opened-right, opened-refused as sheet-refused, right-none, length-names, length-links, length-individuals}
 use Rattle.sheets.proofs.Reading.{everywhere, sheet-is}
 use Rattle.grids.specs.Columns.{rowsOf}
@@ -41,6 +41,7 @@ use Rattle.verdicts.specs.Cells.{verdictIn, Covered}
 use Rattle.verdicts.proofs.Cells.{verdict-in, covered}
 use Rattle.checker.specs.Fitting.{SheetFits, Filled}
 use Rattle.checker.specs.Working.{gridSize, bookSheetQuestions, workQuestions, worked, workedOf, gridBy, gridAfter, workedNumber}
+use Rattle.checker.specs.declared.Worked.{Worked}
 use Rattle.checker.specs.declared.Worked.the-variants.{Refused, Says}
 
 -- ---- the first no
@@ -169,3 +170,8 @@ workedNumber-is b t g = go (firstNo (workQuestions b t g))
     go : (o : Option ℕ) → workedNumber (worked b t o) ≡ o
     go none = refl
     go (some n) = refl
+
+-- what `work_out` promises, from its equation
+pub worked-answers : (b t : List ℕ) (g : ℕ) (r : Worked) {Q : Type 0} → (r ≡ workedOf b t g) × Q
+    → (r ≡ workedOf b t g) × ((workedNumber r ≡ firstNo (workQuestions b t g)) × Q)
+worked-answers b t g r w = (w .0, (ap workedNumber (w .0) ∙ workedNumber-is b t g, w .1))

@@ -4,6 +4,7 @@ ghost use mathlib.Core.Path.{_≡_};
 ghost use mathlib.Core.List.{_++_};
 ghost use Prim.Native.Nat.{_≤_};
 ghost use lib.ListN.{length, drop};
+ghost use Rattle.chain.specs.Questions.{firstNo};
 ghost use Rattle.book.specs.Opening.{Right};
 ghost use Rattle.book.specs.Reading.{bookOf};
 ghost use Rattle.counter.specs.Counting.{countedOf};
@@ -11,12 +12,12 @@ ghost use Rattle.counter.specs.declared.Counted.the-variants.{Candidates};
 ghost use Rattle.working.specs.Grids.{gridOf};
 ghost use Rattle.working.specs.Working.{verdictOf};
 ghost use Rattle.sheets.specs.Reading.{sheetOf};
-ghost use Rattle.checker.specs.Asking.{gradeAnswer, linkAnswer};
-ghost use Rattle.checker.specs.Working.{gridSize, workedOf, gridAfter};
+ghost use Rattle.checker.specs.Asking.{gradeAnswer, linkAnswer, gradeQuestions, linkQuestions, answerNumber};
+ghost use Rattle.checker.specs.Working.{gridSize, workedOf, gridAfter, workQuestions, workedNumber};
 ghost use Rattle.checker.specs.Fitting.{SheetFits, Filled};
 use book::Opened;
-use book::Sections;
 use counter::Counted;
+use layout::Sections;
 use sheets::Shape;
 use sheets::Sheet;
 use working::Verdict;
@@ -37,11 +38,11 @@ fn grade_counted(b: &[u8], s: Sections, k: u64, c: usize, i: usize) -> Answer
     if k <= c as u64 {
         return Answer::Refused(20);
     }
-    if book::count_terms(s) <= i {
+    if layout::count_terms(s) <= i {
         return Answer::Refused(21);
     }
     let logic = book::logic_in(b, s);
-    Answer::Grade(grades::grade_of(book::terms_in(b, s), logic, c, i))
+    Answer::Grade(grades::grade_of(layout::terms_in(b, s), logic, c, i))
 }
 
 // On an accepted book whose sections are `s`: check 10 is made, and none before.
@@ -58,6 +59,7 @@ pub fn grade_in(b: &[u8], s: Sections, c: usize, i: usize) -> Answer
 // The grade of term `i` in candidate `c`.
 pub fn grade(b: &[u8], c: usize, i: usize) -> Answer
     ensures { λ r. ⌜ r ≡ gradeAnswer (now (b .entry)) c i ⌝ }
+    ensures { λ r. ⌜ answerNumber r ≡ firstNo (gradeQuestions (now (b .entry)) c i) ⌝ }
 {
     match book::open(b) {
         Opened::Refused(n) => Answer::Refused(n),
@@ -82,7 +84,7 @@ fn link_counted(b: &[u8], s: Sections, k: u64, role: u8, c: usize, d: usize) -> 
         return Answer::Refused(21);
     }
     let logic = book::logic_in(b, s);
-    Answer::Grade(grades::link_of(book::terms_in(b, s), logic, role, c, d))
+    Answer::Grade(grades::link_of(layout::terms_in(b, s), logic, role, c, d))
 }
 
 // On an accepted book whose sections are `s`: check 10 is made, and none before.
@@ -99,6 +101,7 @@ pub fn link_in(b: &[u8], s: Sections, role: u8, c: usize, d: usize) -> Answer
 // The link from candidate `c` to candidate `d` for a role.
 pub fn link(b: &[u8], role: u8, c: usize, d: usize) -> Answer
     ensures { λ r. ⌜ r ≡ linkAnswer (now (b .entry)) role c d ⌝ }
+    ensures { λ r. ⌜ answerNumber r ≡ firstNo (linkQuestions (now (b .entry)) role c d) ⌝ }
 {
     match book::open(b) {
         Opened::Refused(n) => Answer::Refused(n),
@@ -124,7 +127,7 @@ fn fill_values(b: &[u8], s: Sections, sheet: &[u8], p: Shape, values: &mut [u8])
     let links = sheets::links_at(p);
     let individuals = sheets::individuals_at(p);
     grids::work_out(
-        book::terms_in(b, s),
+        layout::terms_in(b, s),
         book::logic_in(b, s),
         p.elements,
         p.names,
@@ -147,9 +150,9 @@ fn verdict_by(b: &[u8], s: Sections, sheet: &[u8], p: Shape, values: &[u8]) -> V
     let individuals = sheets::individuals_at(p);
     let end = sheets::end_at(p);
     verdicts::verdict(
-        book::rules_in(b, s),
-        book::memberships_in(b, s),
-        book::links_in(b, s),
+        layout::rules_in(b, s),
+        layout::memberships_in(b, s),
+        layout::links_in(b, s),
         values,
         p.elements,
         &sheet[links..individuals],
@@ -173,7 +176,7 @@ fn work_fitting(
     ensures { λ r. ⌜ now (grid .exit) ≡ gridOf (bookOf (now (b .entry)) .grading) (sheetOf (now (sheet .entry))) ++ drop (gridSize (now (b .entry)) (now (sheet .entry))) (now (grid .entry)) ⌝ }
 {
     fill_values(b, s, sheet, p, values);
-    grids::write_grid(values, book::count_terms(s), p.elements, grid);
+    grids::write_grid(values, layout::count_terms(s), p.elements, grid);
     verdict_by(b, s, sheet, p, values)
 }
 
@@ -183,7 +186,7 @@ fn work_shaped(b: &[u8], s: Sections, sheet: &[u8], p: Shape, grid: &mut [u8]) -
     ensures { λ r. ⌜ r ≡ workedOf (now (b .entry)) (now (sheet .entry)) (length (now (grid .entry))) ⌝ }
     ensures { λ r. ⌜ now (grid .exit) ≡ gridAfter (now (b .entry)) (now (sheet .entry)) (now (grid .entry)) ⌝ }
 {
-    if grid.len() < p.elements * book::count_terms(s) {
+    if grid.len() < p.elements * layout::count_terms(s) {
         return Worked::Refused(16);
     }
     let mut values = [0u8; 4096];
@@ -199,13 +202,14 @@ pub fn work_in(b: &[u8], s: Sections, sheet: &[u8], grid: &mut [u8]) -> Worked
     let k = book::counts_in(b, s);
     match sheets::open_sheet(sheet, s.steps, k.names, k.roles, k.individuals) {
         Sheet::Refused(n) => Worked::Refused(n),
-        Sheet::Right(p) => work_shaped(b, s, sheet, p, grid),
+        Sheet::Accepted(p) => work_shaped(b, s, sheet, p, grid),
     }
 }
 
 // Works out a sheet on a book: the grid takes each element's row of term grades, and the verdict comes back.
 pub fn work_out(b: &[u8], sheet: &[u8], grid: &mut [u8]) -> Worked
     ensures { λ r. ⌜ r ≡ workedOf (now (b .entry)) (now (sheet .entry)) (length (now (grid .entry))) ⌝ }
+    ensures { λ r. ⌜ workedNumber r ≡ firstNo (workQuestions (now (b .entry)) (now (sheet .entry)) (length (now (grid .entry)))) ⌝ }
     ensures { λ r. ⌜ now (grid .exit) ≡ gridAfter (now (b .entry)) (now (sheet .entry)) (now (grid .entry)) ⌝ }
 {
     match book::open(b) {

@@ -10,7 +10,7 @@ use lib.ListN.{length, getD, set, take}
 use lib.Seq.{getD-set-same, getD-set-other, getD-take, length-take-le}
 use borrow.Author.Count.{below-more}
 use Rattle.gradings.specs.declared.Logic.{Logic}
-use Rattle.network.specs.Constraints.{constraintCount, constraintAt, AllMet, Right}
+use Rattle.network.specs.Constraints.{constraintCount, constraintAt, AllMet, ConstraintRight}
 use Rattle.network.specs.Network.{between}
 use Rattle.network.specs.declared.Constraint.{Constraint}
 use Rattle.domains.specs.Consistent.{Fits, Problem}
@@ -20,7 +20,7 @@ use Rattle.classes.specs.Classes.{Alike}
 -- ---- noting
 
 -- the column that a constraint on columns below m reads
-pub read-lt : (lg : Logic) (m e : ℕ) (k : Constraint) → e ≤ 1 → Right lg m k → readAt e k < m
+pub read-lt : (lg : Logic) (m e : ℕ) (k : Constraint) → e ≤ 1 → ConstraintRight lg m k → readAt e k < m
 read-lt lg m e k l r = dite (ℕ-discrete e 0) (λ z. rw z (r .own-lt)) (λ n. let z : e ≡ 1 = omega arith in rw z (r .child-lt))
 
 -- a column more is read

@@ -10,13 +10,14 @@ use Rattle.chain.proofs.Questions.{first-empty, first-yes, first-no, first-none
 use Rattle.semantics.specs.Interpretations.{Grading, graded}
 use Rattle.types.specs.Candidates.{candidates}
 use Rattle.sections.specs.Terms.{termsOf}
-use Rattle.book.specs.Layout.{termBytes}
+use Rattle.layout.specs.Layout.{termBytes}
 use Rattle.book.specs.Reading.{bookOf}
 use Rattle.book.specs.Opening.{bookQuestions, Accepts, Right, openedOf}
-use Rattle.book.specs.declared.Sections.{Sections}
+use Rattle.layout.specs.declared.Sections.{Sections}
 use Rattle.book.specs.declared.Opened.the-variants.{Refused}
 use Rattle.book.proofs.Opening.{opened-refused, right-accepts}
 use Rattle.counter.specs.Counting.{fewCandidates?, candidateQuestions, counted, countedOf, countedNumber}
+use Rattle.counter.specs.declared.Counted.{Counted}
 use Rattle.counter.specs.declared.Counted.the-variants.{Refused as Declined, Candidates}
 
 -- ---- the answer on an accepted book
@@ -80,3 +81,12 @@ countedNumber-is b = go (firstNo (candidateQuestions b))
     go : (o : Option ℕ) → countedNumber (counted (candidates (bookOf b .grading)) o) ≡ o
     go none = refl
     go (some n) = refl
+
+-- what `count` promises, from its equation
+pub counted-answers : (b : List ℕ) (r : Counted) → r ≡ countedOf b → (r ≡ countedOf b) × (countedNumber r ≡ firstNo (candidateQuestions b))
+counted-answers b r e = (e, ap countedNumber e ∙ countedNumber-is b)
+
+-- where no question says no
+pub counted-is : (b : List ℕ) → firstNo (candidateQuestions b) ≡ none → countedOf b ≡ Candidates (candidates (bookOf b .grading))
+unfolding countedOf
+counted-is b h = ap (counted (candidates (bookOf b .grading))) h

@@ -10,7 +10,7 @@ use Rattle.chain.proofs.Lists.{highest-same, highest-max}
 use Rattle.semantics.specs.Books.{nameAbove, roleAbove, linkRoles, membershipIndividuals, linkIndividuals}
 use Rattle.sections.specs.Terms.{termOf}
 use Rattle.counts.specs.Columns.{column}
-use Rattle.sections.specs.Claims.{linksOf, membershipsOf, linkAt, membershipAt, claimCount}
+use Rattle.claims.specs.Claims.{linksOf, membershipsOf, linkAt, membershipAt, claimCount}
 use Rattle.sections.proofs.Terms.{by-kind}
 
 -- ---- the kinds that are left

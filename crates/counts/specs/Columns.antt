@@ -4,7 +4,7 @@ use mathlib.Core.List.{List}
 use Prim.Native.Nat.{ℕ, _+_, _*_}
 use lib.ListN.{getD}
 use Rattle.chain.specs.Lists.{table}
-use Rattle.sections.specs.Claims.{claimCount}
+use Rattle.claims.specs.Claims.{claimCount}
 
 -- byte k of each record of four
 unfoldable pub column : List ℕ → (k : ℕ) → List ℕ

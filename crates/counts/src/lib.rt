@@ -4,7 +4,7 @@ ghost use Prim.Native.Nat.{suc, _<_, max};
 ghost use Rattle.chain.specs.Lists.{highest};
 ghost use Rattle.semantics.specs.Books.{nameAbove, roleAbove, linkRoles, membershipIndividuals, linkIndividuals};
 ghost use Rattle.sections.specs.Terms.{termAt, termsOf, termCount};
-ghost use Rattle.sections.specs.Claims.{membershipsOf, linksOf};
+ghost use Rattle.claims.specs.Claims.{membershipsOf, linksOf};
 ghost use Rattle.counts.specs.Columns.{column};
 use encoding::wide;
 

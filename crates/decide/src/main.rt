@@ -6,11 +6,11 @@ ghost use lib.ListN.{length};
 ghost use Rattle.sections.specs.Terms.{termCount, TermsRight};
 ghost use Rattle.book.specs.Opening.{Right};
 use book::Opened;
-use book::Sections;
-use decider::Decision;
 use gradings::Logic;
+use layout::Sections;
 use libc::STDIN_FILENO;
 use libc::STDOUT_FILENO;
+use outcomes::Decision;
 
 // One mark byte for each candidate that a book may have.
 fn no_marks() -> [u8; 16384]
@@ -63,7 +63,7 @@ fn print_types(terms: &[u8], logic: Logic, marks: &[u8])
 fn print_survivors(b: &[u8], s: Sections, marks: &[u8])
     requires { ⌜ Right (now b) s ⌝ }
 {
-    print_types(book::terms_in(b, s), book::logic_in(b, s), marks);
+    print_types(layout::terms_in(b, s), book::logic_in(b, s), marks);
 }
 
 // A line for each individual, of which there are at most 8.

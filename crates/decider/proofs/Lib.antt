@@ -1,3 +1,2 @@
-pub mod Equipped
 pub mod Deciding
 pub mod Listed

@@ -1,27 +1,26 @@
 -- What deciding says and leaves, of a book that is decided: the laws that the demands name.
 -- Assumes nothing.
 use mathlib.Core.Path.{_≡_, refl, sym, ap, subst, _∙_}
-use mathlib.Core.Logic.{dite}
+use mathlib.Core.Logic.{dite, ite, _↔_, _⊎_, inl, inr}
 use mathlib.Core.Option.{Option, none, some}
 use mathlib.Core.List.{List, [], _∷_, _++_, flatMap}
 use Prim.Native.Nat.{ℕ, zero, suc, _+_, _-_, _*_, _≤_, _<_}
-use native.Mathlib.Decide.{decLt}
+use native.Mathlib.Decide.{ℕ-discrete, decLt, decLe}
 use native.Mathlib.Omega.{arith}
-use lib.ListN.{length, getD, take, drop, length-append, length-drop}
+use lib.ListN.{length, getD, take, drop, length-append, length-drop, List·getD-append}
 use lib.Seq.{take-at, drop-at, ext-getD, getD-drop}
-use Rattle.chain.specs.Lists.{Mem, index}
+use Rattle.chain.specs.Lists.{Mem, any?, index}
 use Rattle.chain.proofs.Lists.{length-table, getD-table, ascending-same}
-use Rattle.chain.specs.Questions.{firstNo}
-use Rattle.chain.proofs.Questions.{first-none-append, first-yes, first-empty}
-use Rattle.encoding.specs.Words.{wordAt, wordBytes}
+use Rattle.chain.proofs.Questions.{first-none-append, first-yes, first-none, first-both, first-empty}
 use Rattle.semantics.specs.Books.{Book, individuals}
 use Rattle.types.specs.Candidates.{candidates}
-use Rattle.book.specs.Layout.{sectionsOf}
+use Rattle.encoding.specs.Words.{wordAt, wordBytes}
+use Rattle.layout.specs.Layout.{sectionsOf}
 use Rattle.book.specs.Reading.{bookOf}
 use Rattle.book.specs.Opening.{Accepts, bookQuestions}
+use Rattle.counter.specs.Counting.{candidateQuestions, fewCandidates?}
 use Rattle.book.proofs.Opening.{accepts-right}
 use Rattle.book.proofs.Reading.{right-individuals}
-use Rattle.counter.specs.Counting.{fewCandidates?}
 use Rattle.elimination.specs.Listed.{typesIn}
 use Rattle.elimination.specs.Marks.{marksOf, Marked, marked}
 use Rattle.elimination.proofs.Survivors.{survivors-ascending}
@@ -29,8 +28,10 @@ use Rattle.elimination.proofs.Marks.{length-marks, marked-mem, marked-ascending
 use Rattle.placement.specs.Outcome.{seat, survivorsOf, placement, outcome, HoldsAt, placedTypes}
 use Rattle.placement.specs.Dictionary.{Finds}
 use Rattle.placement.proofs.Outcome.{placement-finds, placement-first}
-use Rattle.decider.specs.Deciding.{decision, markedIn, placedIn, decideQuestions, decisionOf, marksAfter, placementAfter, Decidable, outcomeIn, survivorsIn, listedBy, placementIn, interpretationIn}
-use Rattle.decider.proofs.Deciding.{decide-none, settled, marked-in, marked-length, length-words}
+use Rattle.outcomes.specs.Decided.{decision, markedIn, placedIn}
+use Rattle.decider.specs.Deciding.{decisionOf, marksAfter, placementAfter, Decidable, outcomeIn, survivorsIn, listedBy, placementIn, interpretationIn}
+use Rattle.outcomes.proofs.Decided.{marked-in, marked-length, length-words}
+use Rattle.decider.proofs.Deciding.{decide-none, settled}
 
 -- ---- two bytes make a number
 
@@ -43,11 +44,30 @@ word-at (x ∷ ps) zs (suc j) h =
     let f : suc (suc (2 * j)) + 1 ≡ suc (suc (2 * j + 1)) = omega arith in
     rw (e, f) (word-at ps zs j (omega arith))
 
--- ---- the questions all say yes
+-- ---- no question says no
 
-pub decidable-none : (b : List ℕ) (m p : ℕ) → Decidable b m p → firstNo (decideQuestions b m p) ≡ none
+pub record Suffices (b : List ℕ) (m p : ℕ) : Type 0 where
+  pub accepted : Accepts b
+  pub few : candidates (bookOf b .grading) ≤ 16384
+  pub marks-suffice : candidates (bookOf b .grading) ≤ m
+  pub placement-suffices : 16 ≤ p
+
+pub decidable-suffices : (b : List ℕ) (m p : ℕ) → Decidable b m p → Suffices b m p
 unfolding Accepts
-decidable-none b m p d =
+decidable-suffices b m p d =
+    let u = first-both (candidateQuestions b) _ d in
+    let v = first-both (bookQuestions b) _ (u .0) in
+    let room = first-none 11 (decLe (candidates (bookOf b .grading)) m) _ (u .1) in
+    record {
+      accepted = v .0;
+      few = first-none 10 (fewCandidates? b) [] (v .1) .0;
+      marks-suffice = room .0;
+      placement-suffices = first-none 12 (decLe 16 p) [] (room .1) .0;
+    }
+
+pub suffices-decidable : (b : List ℕ) (m p : ℕ) → Suffices b m p → Decidable b m p
+unfolding Accepts
+suffices-decidable b m p d =
     decide-none b m p
     (first-none-append (bookQuestions b) _ (d .accepted) ∙ first-yes 10 (fewCandidates? b) [] (d .few) ∙ first-empty)
     (d .marks-suffice) (d .placement-suffices)
@@ -68,7 +88,7 @@ module _ (b marks buffer : List ℕ) (d : Decidable b (length marks) (length buf
   -- ---- the answer
 
   pub decided-is : decisionOf b m p ≡ decision B
-  decided-is = sym (settled b marks buffer (decidable-none b m p d) .0)
+  decided-is = sym (settled b marks buffer d .0)
 
   pub outcome-is : outcomeIn (decisionOf b m p) ≡ outcome B
   outcome-is = ap outcomeIn decided-is
@@ -79,7 +99,7 @@ module _ (b marks buffer : List ℕ) (d : Decidable b (length marks) (length buf
   -- ---- the marks
 
   pub marks-is : marksAfter b p marks ≡ markedIn B marks
-  marks-is = sym (settled b marks buffer (decidable-none b m p d) .1 .0)
+  marks-is = sym (settled b marks buffer d .1 .0)
 
   pub listed-is : listedBy b (marksAfter b p marks) ≡ survivorsOf B
   listed-is = ap (listedBy b) marks-is ∙ marked-in B k refl marks
@@ -96,7 +116,22 @@ module _ (b marks buffer : List ℕ) (d : Decidable b (length marks) (length buf
   marks-kept = ap (drop k) marks-is ∙ drop-at (marksOf (survivorsOf B) k) _ k (length-marks (survivorsOf B) k)
 
   pub marks-length : length (marksAfter b p marks) ≡ length marks
-  marks-length = ap length marks-is ∙ marked-length B k refl marks (d .marks-suffice)
+  marks-length = ap length marks-is ∙ marked-length B k refl marks (decidable-suffices b m p d .marks-suffice)
+
+  -- each is 1 for a listed candidate, and else 0
+  pub mark-listed : (c : ℕ) → c < k → Marked (marksAfter b p marks) c ↔ Mem c (listedBy b (marksAfter b p marks))
+  mark-listed c h = (λ e. marked-mem (marksAfter b p marks) k c .1 (h, e), λ m. marked-mem (marksAfter b p marks) k c .0 m .1)
+
+  pub mark-bit : (c : ℕ) → c < k → (getD (marksAfter b p marks) c 0 ≡ 0) ⊎ (getD (marksAfter b p marks) c 0 ≡ 1)
+  unfolding marksOf
+  mark-bit c h =
+      rw marks-is (subst (λ (x : ℕ). (x ≡ 0) ⊎ (x ≡ 1))
+      (sym (List·getD-append (marksOf (survivorsOf B) k) _ 0 c (rw (length-marks (survivorsOf B) k) h)
+      ∙ getD-table (λ c. ite (any? (ℕ-discrete c) (survivorsOf B)) 1 0) k c 0 h)) (go (any? (ℕ-discrete c) (survivorsOf B))))
+    where
+      go : {A : Type 0} (t : Dec A) → (ite {C = ℕ} t 1 0 ≡ 0) ⊎ (ite {C = ℕ} t 1 0 ≡ 1)
+      go (yes a) = inr refl
+      go (no n) = inl refl
 
   -- where no byte of the buffer was 1, the whole buffer lists them
   pub listed-all : ((c : ℕ) → ¬ Marked marks c) → marked (marksAfter b p marks) m ≡ survivorsOf B
@@ -119,12 +154,12 @@ module _ (b marks buffer : List ℕ) (d : Decidable b (length marks) (length buf
       of : (c : ℕ) → Mem c (survivorsOf B) → Mem c (marked (marksAfter b p marks) m)
       of c h =
           let u = marked-mem (marksAfter b p marks) k c .0 (subst (Mem c) (sym listed-is) h) in
-          marked-mem (marksAfter b p marks) m c .1 (omega (arith, u .0, d .marks-suffice), u .1)
+          marked-mem (marksAfter b p marks) m c .1 (omega (arith, u .0, decidable-suffices b m p d .marks-suffice), u .1)
 
   -- ---- the placement
 
   pub placement-is : placementAfter b m buffer ≡ placedIn (placement B) buffer
-  placement-is = sym (settled b marks buffer (decidable-none b m p d) .1 .1)
+  placement-is = sym (settled b marks buffer d .1 .1)
 
   module _ (ps : List ℕ) (found : placement B ≡ some ps) where
     pub placed-length : length ps ≡ individuals B
@@ -158,21 +193,23 @@ module _ (b marks buffer : List ℕ) (d : Decidable b (length marks) (length buf
   placement-length = ap length placement-is ∙ go (placement B) (placement-finds B)
     where
       few : individuals B ≤ 8
-      few = right-individuals b (sectionsOf b) (accepts-right b (d .accepted))
+      few = right-individuals b (sectionsOf b) (accepts-right b (decidable-suffices b m p d .accepted))
 
       go : (o : Option (List ℕ)) → Finds (survivorsOf B) (individuals B) (HoldsAt B) o → length (placedIn o buffer) ≡ length buffer
       go none f = refl
-      go (some q) f = length-append (flatMap wordBytes q) _ ∙ omega (arith, length-words q, length-drop (2 * length q) buffer, f .drawn .0, few, d .placement-suffices)
+      go (some q) f = length-append (flatMap wordBytes q) _ ∙ omega (arith, length-words q, length-drop (2 * length q) buffer, f .drawn .0, few, decidable-suffices b m p d .placement-suffices)
 
   -- ---- deciding again changes nothing
 
   again : Decidable b (length (marksAfter b p marks)) (length (placementAfter b m buffer))
-  again = record {
-    accepted = d .accepted;
-    few = d .few;
-    marks-suffice = omega (arith, marks-length, d .marks-suffice);
-    placement-suffices = omega (arith, placement-length, d .placement-suffices);
-  }
+  again =
+      let u = decidable-suffices b m p d in
+      suffices-decidable b _ _ (record {
+        accepted = u .accepted;
+        few = u .few;
+        marks-suffice = omega (arith, marks-length, u .marks-suffice);
+        placement-suffices = omega (arith, placement-length, u .placement-suffices);
+      })
 
 -- ---- whatever the buffers held, and however often
 

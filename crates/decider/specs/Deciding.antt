@@ -4,39 +4,24 @@
 use mathlib.Core.Path.{_≡_}
 use mathlib.Core.Logic.{_⊎_}
 use mathlib.Core.Option.{Option, none, some}
-use mathlib.Core.List.{List, [], _∷_, _++_, flatMap}
-use Prim.Native.Nat.{ℕ, _*_, _≤_}
+use mathlib.Core.List.{List, [], _∷_, _++_}
+use Prim.Native.Nat.{ℕ, _*_}
 use native.Mathlib.Decide.{decLe}
-use lib.ListN.{length, take, drop}
+use lib.ListN.{length}
 use Rattle.chain.specs.Lists.{table, index}
 use Rattle.chain.specs.Questions.{Question, ask, firstNo}
-use Rattle.encoding.specs.Words.{wordAt, wordBytes}
 use Rattle.semantics.specs.Interpretations.{Interpretation}
-use Rattle.semantics.specs.Books.{Book, individuals}
+use Rattle.semantics.specs.Books.{individuals}
 use Rattle.types.specs.Candidates.{candidates}
 use Rattle.book.specs.Reading.{bookOf}
-use Rattle.book.specs.Opening.{Accepts}
+use Rattle.encoding.specs.Words.{wordAt}
 use Rattle.counter.specs.Counting.{candidateQuestions}
 use Rattle.elimination.specs.Listed.{typesIn}
-use Rattle.elimination.specs.Marks.{marksOf, marked}
-use Rattle.placement.specs.Outcome.{seat, survivorsOf, placement, outcome}
-use Rattle.decider.specs.declared.Decision.{Decision}
-use Rattle.decider.specs.declared.Decision.the-variants.{Refused, Decided}
-
--- ---- of an abstract book
-
--- "the outcome and the number of survivors"
-abbrev pub decision : Book → Decision
-decision B = Decided (outcome B) (length (survivorsOf B))
-
--- "one mark byte per candidate (1 survivor, 0 not)"; the bytes past them are kept
-abbrev pub markedIn : Book → (marks : List ℕ) → List ℕ
-markedIn B marks = marksOf (survivorsOf B) (candidates (B .grading)) ++ drop (candidates (B .grading)) marks
-
--- "the placement: two bytes per individual"; the bytes past it are kept, and all where there is none
-abbrev pub placedIn : Option (List ℕ) → (buffer : List ℕ) → List ℕ
-placedIn none buffer = buffer
-placedIn (some p) buffer = flatMap wordBytes p ++ drop (2 * length p) buffer
+use Rattle.elimination.specs.Marks.{marked}
+use Rattle.placement.specs.Outcome.{seat, placement}
+use Rattle.outcomes.specs.Decided.{decision, markedIn, placedIn}
+use Rattle.outcomes.specs.declared.Decision.{Decision}
+use Rattle.outcomes.specs.declared.Decision.the-variants.{Refused, Decided}
 
 -- ---- of a book's bytes
 
@@ -69,10 +54,6 @@ module _ (b : List ℕ) where
   unfoldable pub placementAfter : (m : ℕ) → List ℕ → List ℕ
   placementAfter m buffer = placementBy (firstNo (decideQuestions m (length buffer))) buffer
 
--- the seats hold the placement, where the outcome is 1
-unfoldable pub HoldsPlacement : (b seats : List ℕ) → Type 0
-HoldsPlacement b seats = outcome (bookOf b) ≡ 1 → placement (bookOf b) ≡ some (take (individuals (bookOf b)) seats)
-
 -- the document's number for each answer
 abbrev pub decisionNumber : Decision → Option ℕ
 decisionNumber (Refused n) = some n
@@ -89,12 +70,10 @@ survivorsIn (Decided o k) = k
 
 -- ---- "Words of demand 3"
 
--- "A book is accepted when all checks under "Every call on a book" say yes. The buffers suffice when 11 and 12 say yes."
-pub record Decidable (b : List ℕ) (m p : ℕ) : Type 0 where
-  pub accepted : Accepts b
-  pub few : candidates (bookOf b .grading) ≤ 16384
-  pub marks-suffice : candidates (bookOf b .grading) ≤ m
-  pub placement-suffices : 16 ≤ p
+-- "A book is accepted when all checks under "Every call on a book" say yes. The buffers suffice when 11 and 12 say yes.": with m mark bytes and p
+-- placement bytes no question of deciding says no
+abbrev pub Decidable : (b : List ℕ) (m p : ℕ) → Type 0
+Decidable b m p = firstNo (decideQuestions b m p) ≡ none
 
 -- "Unsatisfiable is outcome 2 or 3, yes is outcome 1."
 abbrev pub CalledUnsatisfiable : Decision → Type 0
@@ -108,7 +87,10 @@ listedBy b marks = marked marks (candidates (bookOf b .grading))
 abbrev pub placementIn : (buffer : List ℕ) (n : ℕ) → List ℕ
 placementIn buffer n = table (λ j. wordAt buffer (2 * j)) n
 
--- "Their interpretation has one element for each ..; individuals sit as placed", as the two buffers say
+-- "Their interpretation has one element for each ..; individuals sit as placed": of the types listed and a placement
+abbrev pub placedAs : (b listed placement : List ℕ) → Interpretation
+placedAs b xs p = typesIn (bookOf b .grading) xs (λ j. index xs (seat p j))
+
+-- as the two buffers say
 abbrev pub interpretationIn : (b marks buffer : List ℕ) → Interpretation
-interpretationIn b marks buffer =
-    typesIn (bookOf b .grading) (listedBy b marks) (λ j. index (listedBy b marks) (seat (placementIn buffer (individuals (bookOf b))) j))
+interpretationIn b marks buffer = placedAs b (listedBy b marks) (placementIn buffer (individuals (bookOf b)))

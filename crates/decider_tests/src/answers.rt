@@ -1,6 +1,6 @@
 // What a call says: the number of the first check that says no, or 0 and two numbers: outcome and survivors, a sheet's length, a grade.
 use checker::Worked;
-use decider::Decision;
+use outcomes::Decision;
 use working::Verdict;
 use writer::Written;
 

@@ -1,52 +1,58 @@
 -- The theorems are not vacuous: for books of the readings, models are obtained from them, and that there is none.
 -- Assumes nothing.
-use mathlib.Core.Path.{ap}
-use mathlib.Core.Option.{Option, none}
-use mathlib.Core.List.{List, []}
+use mathlib.Core.Path.{_≡_, refl, ap, _∙_}
+use mathlib.Core.List.{List}
 use Prim.Native.Nat.{ℕ}
-use lib.ListN.{getD}
+use native.Mathlib.Omega.{arith}
+use lib.ListN.{length}
+use Rattle.chain.specs.Lists.{Each, table}
+use Rattle.chain.proofs.Lists.{length-table, each-mem, mem-each}
 use Rattle.semantics.specs.Books.{Satisfiable, RulesSatisfiable}
 use Rattle.book.specs.Reading.{bookOf}
-use Rattle.book.specs.Opening.{Accepts}
-use Rattle.book.proofs.Reading.{accepts-valid}
-use Rattle.demands.specs.Types.{outcome-1-holds-together, outcome-2-claims-fail, outcome-3-no-model}
-use Rattle.demands.specs.Readings.{Answer, books-accepted, books-read, printed, underSome, someBottom}
+use Rattle.decider.specs.Deciding.{Decidable, decisionOf, outcomeIn}
+use Rattle.outcomes.specs.declared.Decision.the-variants.{Decided}
+use Rattle.decider.proofs.Deciding.{decision-decided}
+use Rattle.demands.specs.Demand3.{outcome-1-holds-together, outcome-2-claims-fail, outcome-3-no-model}
+use Rattle.demands.specs.Readings.{Reading, link-reading, book-reading, Reads, readings, readings-on-file, printed, underSome, someBottom}
 
--- entry k of a table's theorem
-abbrev accepted-at : (k : ℕ) → List (Option ℕ) → Option ℕ
-accepted-at k xs = getD xs k none
+-- buffers that suffice
+abbrev zeros : ℕ → List ℕ
+zeros n = table (λ _. 0) n
 
-abbrev outcome-at : (k : ℕ) → List Answer → ℕ
-outcome-at k xs = getD xs k (record { outcome-is = 0; survivors-are = []; placed-at = none }) .outcome-is
+-- what a reading's outcome says of models
+abbrev Models : Reading → Type 0
+Models (link-reading b c d l) = Unit {0}
+Models (book-reading b o k ms ps) =
+    (o ≡ 1 → Satisfiable (bookOf b)) × (o ≡ 2 → RulesSatisfiable (bookOf b) × ¬ Satisfiable (bookOf b)) × (o ≡ 3 → ¬ RulesSatisfiable (bookOf b))
+
+models-of : (q : Reading) → Reads q → Models q
+models-of (link-reading b c d l) r = tt
+models-of (book-reading b o k ms ps) r =
+    let marks = zeros (length ms) in
+    let buffer = zeros 16 in
+    let a : decisionOf b (length marks) (length buffer) ≡ Decided o k =
+    r marks buffer (omega (arith, length-table {A = ℕ} (λ _. 0) (length ms))) (omega (arith, length-table {A = ℕ} (λ _. 0) 16)) .0 in
+    let d : Decidable b (length marks) (length buffer) = decision-decided b (length marks) (length buffer) o k a .0 in (
+      λ e. outcome-1-holds-together b marks buffer d .0 (ap outcomeIn a ∙ e),
+      λ e. outcome-2-claims-fail b marks buffer d .0 (ap outcomeIn a ∙ e),
+      λ e. outcome-3-no-model b marks buffer d .0 (ap outcomeIn a ∙ e),
+    )
+
+models : Each Models readings
+models = mem-each {P = Models} readings (λ q m. models-of q (each-mem Reads readings readings-on-file q m))
 
 -- the printed book has a model
-printed-accepted : Accepts (printed 2)
-unfolding Accepts
-printed-accepted = ap (accepted-at 0) books-accepted
-
 pub printed-model : Satisfiable (bookOf (printed 2))
-printed-model = outcome-1-holds-together (bookOf (printed 2)) (accepts-valid (printed 2) printed-accepted) .0 (ap (outcome-at 0) books-read)
+printed-model = models .1 .1 .1 .1 .0 .0 refl
 
 -- with N 1 no interpretation of any size meets its rules
-printed-1-accepted : Accepts (printed 1)
-unfolding Accepts
-printed-1-accepted = ap (accepted-at 1) books-accepted
-
 pub printed-1-none : ¬ RulesSatisfiable (bookOf (printed 1))
-printed-1-none = outcome-3-no-model (bookOf (printed 1)) (accepts-valid (printed 1) printed-1-accepted) .0 (ap (outcome-at 1) books-read)
+printed-1-none = models .1 .1 .1 .1 .1 .0 .2 refl
 
 -- A under "some r0 A" has a model
-underSome-accepted : Accepts underSome
-unfolding Accepts
-underSome-accepted = ap (accepted-at 3) books-accepted
-
 pub underSome-model : Satisfiable (bookOf underSome)
-underSome-model = outcome-1-holds-together (bookOf underSome) (accepts-valid underSome underSome-accepted) .0 (ap (outcome-at 3) books-read)
+underSome-model = models .1 .1 .1 .1 .1 .1 .1 .0 .0 refl
 
 -- "some r0 bottom" at least 1: the rules have a model, and none meets the claim
-someBottom-accepted : Accepts someBottom
-unfolding Accepts
-someBottom-accepted = ap (accepted-at 4) books-accepted
-
 pub someBottom-fails : RulesSatisfiable (bookOf someBottom) × ¬ Satisfiable (bookOf someBottom)
-someBottom-fails = outcome-2-claims-fail (bookOf someBottom) (accepts-valid someBottom someBottom-accepted) .0 (ap (outcome-at 4) books-read)
+someBottom-fails = models .1 .1 .1 .1 .1 .1 .1 .1 .0 .1 refl

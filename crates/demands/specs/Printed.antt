@@ -13,12 +13,12 @@ use Rattle.encoding.specs.Words.{wordAt}
 use Rattle.semantics.specs.Terms.{value, deep}
 use Rattle.semantics.specs.Books.{Book, individuals}
 use Rattle.semantics.specs.Links.{linkBetween}
-use Rattle.types.specs.Candidates.{bearer, opens?, places, homeAs, home, slot, candidates, gradeIn}
+use Rattle.types.specs.Candidates.{bearer, opens?, places, homeAs, home, placeNumber, candidates, gradeIn}
 use Rattle.sections.specs.Terms.{termsRight?, termsOf}
-use Rattle.sections.specs.Rules.{rulesRight?, rulesOf}
-use Rattle.sections.specs.Claims.{membershipsRight?, linksRight?, membershipsOf, linksOf}
+use Rattle.claims.specs.Rules.{rulesRight?, rulesOf}
+use Rattle.claims.specs.Claims.{membershipsRight?, linksRight?, membershipsOf, linksOf}
 use Rattle.grades.specs.Rows.{rowOf}
-use Rattle.book.specs.Layout.{sectionsOf, lengthRight?, editionRight?, stepsRight?, countsRight?, laidOut?}
+use Rattle.layout.specs.Layout.{sectionsOf, lengthRight?, editionRight?, stepsRight?, countsRight?, laidOut?}
 use Rattle.book.specs.Reading.{bookOf}
 use Rattle.counter.specs.Counting.{fewCandidates?, candidateQuestions}
 use Rattle.elimination.specs.Survivors.{fits?, settle, survivors}
@@ -33,7 +33,7 @@ use Rattle.chain.proofs.Questions.{first-both}
 use Rattle.chain.proofs.Lists.{getD-table}
 use Rattle.elimination.specs.Marks.{Marked, marked?, marked}
 use Rattle.decider.specs.Deciding.{decisionOf, marksAfter, placementAfter, outcomeIn, survivorsIn, Decidable}
-use Rattle.decider.specs.declared.Decision.{Decision}
+use Rattle.outcomes.specs.declared.Decision.{Decision}
 use Rattle.decider.proofs.Listed as Left
 use Rattle.placement.proofs.Outcome as Outcome
 use Rattle.printout.proofs.Whole.{types-blocks, whole-placed, whole-other}
@@ -44,7 +44,7 @@ pub printed-book : printoutOf (printed 2) ≡ bytes "outcome 1 survivors 1\ntype
 unfolding printoutOf decidedLines outcomeLine typeLines typeLine individualLines individualLine spaced labelled newline decimal spelled bytes flatMap decLt
     firstNo says lengthRight? editionRight? stepsRight? countsRight? laidOut? termsRight? rulesRight? membershipsRight? linksRight? fewCandidates?
     bookOf sectionsOf wordAt termsOf rulesOf membershipsOf linksOf table outcome placement placementAmong tryEach holds? survivors
-    settle fits? each? keep from candidates places gradeIn value deep slot home homeAs bearer first opens? rank digit linkBetween individuals highest rowOf
+    settle fits? each? keep from candidates places gradeIn value deep placeNumber home homeAs bearer first opens? rank digit linkBetween individuals highest rowOf
 printed-book = refl
 
 -- The program decides with a marks buffer in which no byte is 1 and a placement buffer that suffices, and prints from them in this order: the
@@ -66,7 +66,7 @@ module _ (b marks buffer : List ℕ) (d : Decidable b (length marks) (length buf
 
   printout-is : decidedLines B ≡ printoutOf b
   unfolding printoutOf
-  printout-is = sym (ap (λ (o : Option ℕ). printedBy o B) (first-both (candidateQuestions b) _ (Left.decidable-none b (length marks) (length buffer) d) .0))
+  printout-is = sym (ap (λ (o : Option ℕ). printedBy o B) (first-both (candidateQuestions b) _ d .0))
 
   types-are : types ≡ survivorsOf B
   types-are = Left.listed-all b marks buffer d clear

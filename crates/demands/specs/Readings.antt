@@ -1,77 +1,67 @@
--- The readings on file of document 01, computed from the definitions: one theorem over the whole table.
+-- The readings on file of document 01, on bytes: one theorem over the whole table, links and books.
 -- Assumes nothing.
-use mathlib.Core.Path.{_≡_, refl}
-use mathlib.Core.Option.{Option, none, some}
-use mathlib.Core.List.{List, [], _∷_, map}
-use Prim.Native.Nat.{ℕ, _+_, _*_}
-use lib.ListN.{length}
-use Rattle.chain.specs.Search.{first, rank}
-use Rattle.chain.specs.Lists.{table, highest, from, keep, each?}
-use Rattle.chain.specs.Digits.{digit}
-use Rattle.semantics.specs.Terms.{Term, name, all, value, deep}
-use Rattle.semantics.specs.Interpretations.{graded}
-use Rattle.semantics.specs.Books.{Book, individuals}
-use Rattle.semantics.specs.Links.{linkBetween}
-use Rattle.types.specs.Candidates.{bearer, opens?, places, homeAs, home, slot, candidates, gradeIn}
-use Rattle.types.specs.Links.{link}
+use mathlib.Core.Path.{_≡_, refl, _∙_}
+use mathlib.Core.Option.{none}
+use mathlib.Core.List.{List, [], _∷_, _++_, flatMap}
+use Prim.Native.Nat.{ℕ, _*_, _≤_}
+use lib.ListN.{length, drop}
 use Rattle.chain.specs.Decisions.{says}
 use Rattle.chain.specs.Questions.{firstNo}
-use Rattle.encoding.specs.Words.{wordAt}
+use Rattle.chain.specs.Search.{first, rank}
+use Rattle.chain.specs.Lists.{Each, table, highest, from, keep, each?, any?}
+use Rattle.chain.specs.Digits.{digit}
+use Rattle.chain.proofs.Lists.{each-mem, mem-each}
+use Rattle.semantics.specs.Terms.{value, deep}
+use Rattle.semantics.specs.Books.{individuals}
+use Rattle.types.specs.Candidates.{bearer, opens?, places, homeAs, home, placeNumber, candidates, gradeIn}
+use Rattle.semantics.specs.Links.{linkBetween}
 use Rattle.sections.specs.Terms.{termsRight?, termsOf}
-use Rattle.sections.specs.Rules.{rulesRight?, rulesOf}
-use Rattle.sections.specs.Claims.{membershipsRight?, linksRight?, membershipsOf, linksOf}
-use Rattle.book.specs.Layout.{sectionsOf, lengthRight?, editionRight?, stepsRight?, countsRight?, laidOut?}
+use Rattle.claims.specs.Rules.{rulesRight?, rulesOf}
+use Rattle.claims.specs.Claims.{membershipsRight?, linksRight?, membershipsOf, linksOf}
+use Rattle.encoding.specs.Words.{wordAt}
+use Rattle.layout.specs.Layout.{sectionsOf, lengthRight?, editionRight?, stepsRight?, countsRight?, laidOut?}
 use Rattle.book.specs.Reading.{bookOf}
-use Rattle.book.specs.Opening.{bookQuestions}
-use Rattle.counter.specs.Counting.{fewCandidates?}
-use Rattle.decider.specs.Deciding.{decisionOf}
-use Rattle.decider.specs.declared.Decision.the-variants.{Decided}
+use Rattle.counter.specs.Counting.{fewCandidates?, candidateQuestions}
+use Rattle.checker.specs.Asking.{linkAnswer}
+use Rattle.checker.specs.declared.Answer.the-variants.{Grade}
+use Rattle.outcomes.specs.Decided.{decision, markedIn, placedIn}
+use Rattle.decider.specs.Deciding.{decisionOf, marksAfter, placementAfter, Decidable}
+use Rattle.outcomes.specs.declared.Decision.the-variants.{Decided}
+use Rattle.decider.proofs.Deciding as Deciding
+use Rattle.decider.proofs.Listed as Left
+use Rattle.elimination.specs.Marks.{marksOf}
 use Rattle.elimination.specs.Survivors.{fits?, settle, survivors}
 use Rattle.placement.specs.Dictionary.{tryEach}
-use Rattle.placement.specs.Outcome.{survivorsOf, holds?, placementAmong, placement, outcome}
+use Rattle.placement.specs.Outcome.{holds?, placementAmong, placement, outcome}
 
--- ---- the links
+-- a reading of document 01, of a book's bytes
+pub data Reading : Type 0 where
+  -- for role 0 the link from the one candidate to the other
+  link-reading : (bytes : List ℕ) (source target link : ℕ) → Reading
+  -- the outcome, the number of survivors, the mark bytes and the placement's bytes
+  book-reading : (bytes : List ℕ) (outcome survivors : ℕ) (marks placement : List ℕ) → Reading
 
--- over a name A, a quantified term of role 0 that is graded g in the first candidate, and A graded x in the second, on N steps
-pub record LinkReading : Type 0 where
-  pub steps : ℕ
-  pub quantified : Term
-  pub graded-at : ℕ
-  pub child-at : ℕ
-  pub link-of : ℕ
-
-abbrev linkOf : LinkReading → ℕ
-linkOf q = link (graded (q .steps) (name 0 ∷ q .quantified ∷ [])) 0 ((q .steps + 1) * q .graded-at) (q .child-at)
-
-abbrev reads : ℕ → Term → ℕ → ℕ → ℕ → LinkReading
-reads N t g x l = record { steps = N; quantified = t; graded-at = g; child-at = x; link-of = l }
-
-abbrev pub linkReadings : List LinkReading
-linkReadings =
-    -- "all" graded 3, child 1, N 4: link 1. Child 3: link 4.
-    reads 4 (all 0 0) 3 1 1 ∷ reads 4 (all 0 0) 3 3 4
-    -- "some" graded 1, child 3, N 4: link 1. Graded 2, child 2: link 4.
-    ∷ reads 4 (Term.some 0 0) 1 3 1 ∷ reads 4 (Term.some 0 0) 2 2 4 ∷ []
-
-pub links-read : map linkOf linkReadings ≡ map (λ q. q .link-of) linkReadings
-unfolding linkBetween gradeIn value deep slot home homeAs bearer first opens? rank digit
-links-read = refl
+-- what it says: that `checker::link` answers so; that deciding answers so and leaves so, with buffers that suffice, whatever they hold, and keeps
+-- the bytes past what it sets
+abbrev pub Reads : Reading → Type 0
+Reads (link-reading b c d l) = linkAnswer b 0 c d ≡ Grade l
+Reads (book-reading b o k ms ps) =
+    (marks buffer : List ℕ) → length ms ≤ length marks → 16 ≤ length buffer
+    → (decisionOf b (length marks) (length buffer) ≡ Decided o k)
+    × (marksAfter b (length buffer) marks ≡ ms ++ drop (length ms) marks)
+    × (placementAfter b (length marks) buffer ≡ ps ++ drop (length ps) buffer)
 
 -- ---- the books
 
--- what deciding says of a book
-pub record Answer : Type 0 where
-  pub outcome-is : ℕ
-  pub survivors-are : List ℕ
-  pub placed-at : Option (List ℕ)
+-- on 4 steps a name A, and a term over A of the kind "some" (4) or "all" (5), for role 0
+abbrev quantified : ℕ → List ℕ
+quantified kind =
+    0x01 ∷ 0x04 ∷ 0x00 ∷ 0x12 ∷ 0x00 ∷ 0x02 ∷ 0x00 ∷ 0x18 ∷ 0x00 ∷ 0x00 ∷ 0x00 ∷ 0x18 ∷ 0x00 ∷ 0x00 ∷ 0x00 ∷ 0x18 ∷ 0x00 ∷ 0x00
+    ∷ 0x00 ∷ 0x00 ∷ 0x00 ∷ kind ∷ 0x00 ∷ 0x00 ∷ []
 
--- a book's bytes, and what is said of it: it is accepted, and decided so
-pub record Reading : Type 0 where
-  pub bytes : List ℕ
-  pub says : Answer
-
-abbrev pub answer : Book → Answer
-answer B = record { outcome-is = outcome B; survivors-are = survivorsOf B; placed-at = placement B }
+-- the term graded g in the first candidate, A graded x in the second
+abbrev linked : (kind g x link : ℕ) → Reading
+linked kind g x l = link-reading (quantified kind) (5 * g) x l
 
 -- the printed book, on N steps: A and "not A" each not greater than the other, A at least 1
 abbrev pub printed : ℕ → List ℕ
@@ -116,37 +106,81 @@ loop g =
     ∷ 0x00 ∷ 0x01 ∷ 0x00 ∷ 0x02 ∷ 0x00 ∷ 0x00 ∷ 0x01 ∷ g
     ∷ 0x00 ∷ 0x00 ∷ 0x00 ∷ 0x02 ∷ []
 
-abbrev reading : List ℕ → ℕ → List ℕ → Option (List ℕ) → Reading
-reading b o s p = record { bytes = b; says = record { outcome-is = o; survivors-are = s; placed-at = p } }
+-- ---- the readings
 
-abbrev pub bookReadings : List Reading
-bookReadings =
+-- all of nine candidates are marked
+abbrev nine : List ℕ
+nine = 1 ∷ 1 ∷ 1 ∷ 1 ∷ 1 ∷ 1 ∷ 1 ∷ 1 ∷ 1 ∷ []
+
+abbrev pub readings : List Reading
+readings =
+    -- "all" graded 3, child 1, N 4: link 1. Child 3: link 4.
+    linked 5 3 1 1 ∷ linked 5 3 3 4
+    -- "some" graded 1, child 3, N 4: link 1. Graded 2, child 2: link 4.
+    ∷ linked 4 1 3 1 ∷ linked 4 2 2 4
     -- The printed book. The same with N 1: outcome 3.
-    reading (printed 2) 1 (1 ∷ []) (some (1 ∷ [])) ∷ reading (printed 1) 3 [] none
+    ∷ book-reading (printed 2) 1 1 (0 ∷ 1 ∷ 0 ∷ []) (0 ∷ 1 ∷ []) ∷ book-reading (printed 1) 3 0 (0 ∷ 0 ∷ []) []
     -- No terms or claims, N 1: one survivor, outcome 1.
-    ∷ reading nothing 1 (0 ∷ []) (some [])
+    ∷ book-reading nothing 1 1 (1 ∷ []) []
     -- survivors 0, 2, 3, placed at 3
-    ∷ reading underSome 1 (0 ∷ 2 ∷ 3 ∷ []) (some (3 ∷ []))
+    ∷ book-reading underSome 1 3 (1 ∷ 0 ∷ 1 ∷ 1 ∷ []) (0 ∷ 3 ∷ [])
     -- outcome 2, one survivor
-    ∷ reading someBottom 2 (0 ∷ []) none
-    -- N 2 gives outcome 1, N 1 outcome 2
-    ∷ reading (both 2) 1 (0 ∷ 1 ∷ 2 ∷ []) (some (1 ∷ [])) ∷ reading (both 1) 2 (0 ∷ 1 ∷ []) none
+    ∷ book-reading someBottom 2 1 (1 ∷ 0 ∷ []) []
+    -- and of those without a star: N 2 gives outcome 1, N 1 outcome 2
+    ∷ book-reading (both 2) 1 3 (1 ∷ 1 ∷ 1 ∷ []) (0 ∷ 1 ∷ []) ∷ book-reading (both 1) 2 2 (1 ∷ 1 ∷ []) []
     -- A at most 1: outcome 2; at most 2: outcome 1
-    ∷ reading (loop 1) 2 (from 0 9) none ∷ reading (loop 2) 1 (from 0 9) (some (8 ∷ [])) ∷ []
+    ∷ book-reading (loop 1) 2 9 nine [] ∷ book-reading (loop 2) 1 9 nine (0 ∷ 8 ∷ []) ∷ []
 
--- the reader accepts each, and each is decided as the reading says
-pub books-accepted : map (λ q. firstNo (bookQuestions (q .bytes))) bookReadings ≡ map (λ q. none) bookReadings
-unfolding firstNo says lengthRight? editionRight? stepsRight? countsRight? laidOut? sectionsOf wordAt termsRight? rulesRight? membershipsRight? linksRight?
-books-accepted = refl
+-- what it comes to in the definitions, which compute
+abbrev Computes : Reading → Type 0
+Computes (link-reading b c d l) = linkAnswer b 0 c d ≡ Grade l
+Computes (book-reading b o k ms ps) =
+    (firstNo (candidateQuestions b) ≡ none) × (candidates (bookOf b .grading) ≡ length ms) × (decision (bookOf b) ≡ Decided o k)
+    × ((marks : List ℕ) → markedIn (bookOf b) marks ≡ ms ++ drop (length ms) marks)
+    × ((buffer : List ℕ) → placedIn (placement (bookOf b)) buffer ≡ ps ++ drop (length ps) buffer)
 
-pub books-read : map (λ q. answer (bookOf (q .bytes))) bookReadings ≡ map (λ q. q .says) bookReadings
-unfolding bookOf sectionsOf wordAt termsOf rulesOf membershipsOf linksOf table outcome placement placementAmong individuals highest tryEach holds? survivors
-    settle fits? from keep each? candidates places linkBetween gradeIn value deep slot home homeAs bearer first opens? rank digit
-books-read = refl
+computed : (q : Reading) → Computes q → Reads q
+computed (link-reading b c d l) e = e
+computed (book-reading b o k ms ps) (asked, count, answer, marks-are, placement-is) = λ marks buffer h g.
+    let d : Decidable b (length marks) (length buffer) = Deciding.decide-none b (length marks) (length buffer) asked (rw count h) g in
+    (Left.decided-is b marks buffer d ∙ answer, Left.marks-is b marks buffer d ∙ marks-are marks, Left.placement-is b marks buffer d ∙ placement-is buffer)
 
--- and so deciding answers, with buffers that suffice
-pub books-decided : map (λ q. decisionOf (q .bytes) 16384 16) bookReadings ≡ map (λ q. Decided (q .says .outcome-is) (length (q .says .survivors-are))) bookReadings
-unfolding decisionOf firstNo says lengthRight? editionRight? stepsRight? countsRight? laidOut? termsRight? rulesRight? membershipsRight? linksRight? fewCandidates?
+computing : Each Computes readings
+unfolding linkAnswer firstNo says lengthRight? editionRight? stepsRight? countsRight? laidOut? termsRight? rulesRight? membershipsRight? linksRight? fewCandidates?
     bookOf sectionsOf wordAt termsOf rulesOf membershipsOf linksOf table outcome placement placementAmong individuals highest tryEach holds? survivors
-    settle fits? from keep each? candidates places linkBetween gradeIn value deep slot home homeAs bearer first opens? rank digit
-books-decided = refl
+    settle fits? from keep each? any? marksOf candidates places linkBetween gradeIn value deep placeNumber home homeAs bearer first opens? rank digit flatMap
+computing = (
+  refl,
+  (
+    refl,
+    (
+      refl,
+      (
+        refl,
+        (
+          (refl, refl, refl, λ _. refl, λ _. refl),
+          (
+            (refl, refl, refl, λ _. refl, λ _. refl),
+            (
+              (refl, refl, refl, λ _. refl, λ _. refl),
+              (
+                (refl, refl, refl, λ _. refl, λ _. refl),
+                (
+                  (refl, refl, refl, λ _. refl, λ _. refl),
+                  (
+                    (refl, refl, refl, λ _. refl, λ _. refl),
+                    ((refl, refl, refl, λ _. refl, λ _. refl), ((refl, refl, refl, λ _. refl, λ _. refl), ((refl, refl, refl, λ _. refl, λ _. refl), tt))),
+                  ),
+                ),
+              ),
+            ),
+          ),
+        ),
+      ),
+    ),
+  ),
+)
+
+-- every reading is as document 01 has it
+pub readings-on-file : Each Reads readings
+readings-on-file = mem-each {P = Reads} readings (λ q m. computed q (each-mem Computes readings computing q m))

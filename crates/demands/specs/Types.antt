@@ -1,44 +1,64 @@
--- "Types and links" of document 01, sentence by sentence, on abstract books. Each theorem stands under the sentence that it says, and is proved by
--- naming a law. What is assumed of a book is what the checks 6 to 9 establish: `Valid B`, and, for places, that no name stands in two terms.
+-- "Types and links" of document 01, sentence by sentence, of an accepted book's bytes: what the candidates are, their grades and their links, and
+-- that `counter::count`, `checker::grade` and `checker::link` answer so. Each theorem stands under the sentence that it says, and is proved by naming
+-- a law.
 -- Assumes nothing.
-use mathlib.Core.Path.{_≡_, refl}
+use mathlib.Core.Path.{_≡_}
 use mathlib.Core.Logic.{_↔_}
-use mathlib.Core.Option.{none, some}
+use mathlib.Core.Option.{none}
 use mathlib.Core.List.{List}
-use Prim.Native.Nat.{ℕ, _+_, _^_, _≤_, _<_}
+use Prim.Native.Nat.{ℕ, _+_, _-_, _^_, _≤_, _<_, min, max}
 use lib.ListN.{length}
 use Rattle.chain.specs.Digits.{digit}
-use Rattle.chain.specs.Connectives.{existential, universal}
-use Rattle.semantics.specs.Terms.{term, local, NamesApart}
-use Rattle.semantics.specs.Quantified.{EachOfRole}
-use Rattle.semantics.specs.Interpretations.{Grading, WellFormed}
-use Rattle.semantics.specs.Books.{Book, Valid, individuals, RulesSatisfiable, Satisfiable}
-use Rattle.types.specs.Candidates.{place, IsPlace, placesBefore, candidates, inCandidate, gradeIn}
+use Rattle.chain.specs.Lists.{Mem}
+use Rattle.chain.specs.Questions.{firstNo}
+use Rattle.semantics.specs.Terms.{some, all}
+use Rattle.semantics.specs.Interpretations.{Grading, Interpretation, WellFormed}
+use Rattle.semantics.specs.Table.{TermIs, Follows}
+use Rattle.semantics.specs.Books.{Book, MeetsClaims}
+use Rattle.types.specs.Candidates.{candidates, gradeIn}
 use Rattle.types.specs.Links.{link}
 use Rattle.types.proofs.Candidates as Candidates
-use Rattle.elimination.specs.Survivors.{Sound, Survives}
-use Rattle.placement.specs.Dictionary.{Foremost, Nowhere}
-use Rattle.placement.specs.Outcome.{seat, HoldsAt, Unmentioned, placement, outcome, survivorsOf}
 use Rattle.types.proofs.Links as Links
+use Rattle.book.specs.Reading.{bookOf}
+use Rattle.book.specs.Opening.{Accepts}
+use Rattle.counter.specs.Counting.{candidateQuestions, countedOf}
+use Rattle.counter.specs.declared.Counted.the-variants.{Candidates as Counts}
+use Rattle.book.proofs.Reading.{accepts-valid}
+use Rattle.elimination.specs.Survivors.{Sound}
 use Rattle.elimination.proofs.Survivors as Survivors
+use Rattle.placement.specs.Outcome.{Unmentioned, seatedAs}
 use Rattle.placement.proofs.Outcome as Outcome
+use Rattle.checker.specs.Places.{PlaceKind, kindOf, placeOf}
+use Rattle.checker.specs.Asking.{gradeQuestions, linkQuestions, gradeAnswer, linkAnswer}
+use Rattle.checker.specs.declared.Answer.the-variants.{Grade}
+use Rattle.checker.proofs.Asking as Asking
+use Rattle.counter.proofs.Counting as Counting
+use Rattle.checker.proofs.Places as Places
+use Rattle.decider.specs.Deciding.{Decidable, marksAfter, listedBy}
+use Rattle.decider.proofs.Listed.{listed-is}
 
--- ---- "Types and links"
+-- of an accepted book
+module _ (b : List ℕ) (ok : Accepts b) where
+  abbrev G : Grading
+  G = bookOf b .grading
 
-module _ (G : Grading) (w : WellFormed G) where
+  abbrev N : ℕ
+  N = G .steps
+
+  w : WellFormed G
+  w = accepts-valid b ok .well-formed
+
   -- "A place is a term of kind 0, 4 or 5. With k places, candidates are 0 to (N+1)^k − 1"
-  pub candidates-are : NamesApart (G .terms) → candidates G ≡ (G .steps + 1) ^ placesBefore (G .terms) (length (G .terms))
-  candidates-are = Candidates.candidates-count G w
+  pub candidates-are : candidates G ≡ (N + 1) ^ placeOf b (length (G .terms))
+  candidates-are = Places.candidates-by-kinds b ok
 
   -- "the grade of the i-th place in term order, i from 0, is digit i in base N+1, lowest first"
-  pub places-are : NamesApart (G .terms) → (c i : ℕ) → i < length (G .terms) → IsPlace (place (term (G .terms) i))
-      → gradeIn G c i ≡ digit (G .steps + 1) (placesBefore (G .terms) i) c
-  places-are = Candidates.gradeIn-place G w
+  pub places-are : (c i : ℕ) → i < length (G .terms) → PlaceKind (kindOf b i) → gradeIn G c i ≡ digit (N + 1) (placeOf b i) c
+  places-are = Places.grade-by-kinds b ok
 
-  -- "The other terms' grades follow.": each from its children's, by the connective that the table has for its kind
-  pub others-follow : (c i : ℕ) → i < length (G .terms) → ¬ IsPlace (place (term (G .terms) i))
-      → gradeIn G c i ≡ local (inCandidate G c) i (term (G .terms) i) (gradeIn G c)
-  others-follow c i l _ = Candidates.gradeIn-local G w c i l (term (G .terms) i) refl
+  -- "The other terms' grades follow.": by the rows of the table
+  pub others-follow : Follows G (candidates G) (λ i c. gradeIn G c i)
+  others-follow = Candidates.gradeIn-follows G w (candidates G)
 
   -- "No two candidates share a type"
   pub types-differ : (c d : ℕ) → c < candidates G → d < candidates G → ((i : ℕ) → i < length (G .terms) → gradeIn G c i ≡ gradeIn G d i) → c ≡ d
@@ -46,40 +66,46 @@ module _ (G : Grading) (w : WellFormed G) where
 
   -- "The link between two candidates for a role is the greatest r at which, for each "all" term of that role, max(N − r, child in the second)
   -- is at least its grade in the first, and for each "some" term min(r, child in the second) is at most its grade in the first."
-  pub link-is-greatest : (r c d s : ℕ) → s ≤ G .steps → (s ≤ link G r c d)
-      ↔ (EachOfRole (G .terms) universal r (λ i x. gradeIn G c i ≤ G .connectives .implication s (gradeIn G d x))
-      × EachOfRole (G .terms) existential r (λ i x. G .connectives .conjunction s (gradeIn G d x) ≤ gradeIn G c i))
-  link-is-greatest r c d = Links.link-each G r c d w
+  pub link-is-greatest : (r c d s : ℕ) → s ≤ N → (s ≤ link G r c d)
+      ↔ (((i x : ℕ) → TermIs G i (all r x) → gradeIn G c i ≤ max (N - s) (gradeIn G d x))
+      × ((i x : ℕ) → TermIs G i (some r x) → min s (gradeIn G d x) ≤ gradeIn G c i))
+  unfolding bookOf
+  link-is-greatest r c d s h =
+      let u = Links.link-each G r c d w s h in (
+        λ l. let e = u .0 l in (λ i x t. e .0 i (t .0) x (t .1), λ i x t. e .1 i (t .0) x (t .1)),
+        λ e. u .1 (λ i l x t. e .0 i x (l, t), λ i l x t. e .1 i x (l, t)),
+      )
 
-  pub link-is-on-chain : (r c d : ℕ) → link G r c d ≤ G .steps
+  pub link-is-on-chain : (r c d : ℕ) → link G r c d ≤ N
   link-is-on-chain = Links.link-le G
 
--- "The survivors are the largest sound set: every sound set lies within it."
-module _ (B : Book) where
-  pub survivors-are-sound : Sound (B .grading) (B .rules) (Survives (B .grading) (B .rules))
-  survivors-are-sound = Survivors.survivors-sound (B .grading) (B .rules)
+-- and so the calls answer, where no question of theirs says no
+module _ (b : List ℕ) where
+  pub count-answers : firstNo (candidateQuestions b) ≡ none → countedOf b ≡ Counts (candidates (bookOf b .grading))
+  count-answers = Counting.counted-is b
 
-  pub sound-sets-lie-within : (S : ℕ → Type 0) → Sound (B .grading) (B .rules) S → (c : ℕ) → S c → Survives (B .grading) (B .rules) c
-  sound-sets-lie-within = Survivors.survivors-largest (B .grading) (B .rules)
+  pub grade-answers : (c i : ℕ) → firstNo (gradeQuestions b c i) ≡ none → gradeAnswer b c i ≡ Grade (gradeIn (bookOf b .grading) c i)
+  grade-answers = Asking.grade-is b
 
-  -- "the placement: .. the first in dictionary order, individual 0 leading: every other placement at survivors that meets the claims comes later"
-  pub placement-is-first : (p : List ℕ) → placement B ≡ some p → Foremost (survivorsOf B) (individuals B) (HoldsAt B) p
-  placement-is-first = Outcome.placement-first B
+  pub link-answers : (r c d : ℕ) → firstNo (linkQuestions b r c d) ≡ none → linkAnswer b r c d ≡ Grade (link (bookOf b .grading) r c d)
+  link-answers = Asking.link-is b
 
-  pub no-placement-is-none : placement B ≡ none → Nowhere (survivorsOf B) (individuals B) (HoldsAt B)
-  no-placement-is-none = Outcome.placement-nowhere B
+-- "A set is sound when each member meets every rule and each of its quantified terms takes exactly its grade from some member through that link.
+-- The survivors are the largest sound set: every sound set lies within it.": those whose types the marks list
+module _ (b marks buffer : List ℕ) (d : Decidable b (length marks) (length buffer)) where
+  abbrev B : Book
+  B = bookOf b
 
-  -- "An individual below the highest that no claim mentions may go anywhere."
-  pub unmentioned-may-go-anywhere : (j : ℕ) → Unmentioned B j → (p q : List ℕ) → ((k : ℕ) → ¬ (k ≡ j) → seat p k ≡ seat q k) → HoldsAt B p → HoldsAt B q
-  unmentioned-may-go-anywhere j u p q = Outcome.unmentioned-same B j u (seat p) (seat q)
+  abbrev listed : List ℕ
+  listed = listedBy b (marksAfter b (length buffer) marks)
 
-module _ (B : Book) (w : Valid B) where
-  -- "Outcomes: 1 holds together; 2 the rules have a model but none meets the claims; 3 the rules have none."
-  pub outcome-1-holds-together : (outcome B ≡ 1) ↔ Satisfiable B
-  outcome-1-holds-together = Outcome.outcome-1 B w
+  pub listed-are-sound : Sound (B .grading) (B .rules) (λ c. Mem c listed)
+  listed-are-sound = rw (listed-is b marks buffer d) (Survivors.survivors-sound (B .grading) (B .rules))
 
-  pub outcome-2-claims-fail : (outcome B ≡ 2) ↔ (RulesSatisfiable B × ¬ Satisfiable B)
-  outcome-2-claims-fail = Outcome.outcome-2 B w
+  pub sound-sets-lie-within : (S : ℕ → Type 0) → Sound (B .grading) (B .rules) S → (c : ℕ) → S c → Mem c listed
+  sound-sets-lie-within = rw (listed-is b marks buffer d) (Survivors.survivors-largest (B .grading) (B .rules))
 
-  pub outcome-3-no-model : (outcome B ≡ 3) ↔ (¬ RulesSatisfiable B)
-  outcome-3-no-model = Outcome.outcome-3 B w
+-- "An individual below the highest that no claim mentions may go anywhere."
+pub unmentioned-may-go-anywhere : (B : Book) (j : ℕ) → Unmentioned B j → (I : Interpretation) (at : ℕ → ℕ)
+    → ((k : ℕ) → ¬ (k ≡ j) → at k ≡ I .element k) → MeetsClaims B I → MeetsClaims B (seatedAs I at)
+unmentioned-may-go-anywhere = Outcome.unmentioned-met

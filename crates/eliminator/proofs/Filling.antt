@@ -16,7 +16,7 @@ use Rattle.chain.proofs.Lists.{each-table, table-each}
 use Rattle.semantics.specs.Interpretations.{Grading}
 use Rattle.semantics.specs.Books.{Rule}
 use Rattle.types.specs.Candidates.{gradeIn}
-use Rattle.sections.specs.Rules.{ruleCount, ruleAt, rulesOf, RulesRight}
+use Rattle.claims.specs.Rules.{ruleCount, ruleAt, rulesOf, RulesRight}
 use Rattle.slots.specs.Slots.{slotCount, slotChild, slotTerm}
 use Rattle.slots.specs.Rows.{SlotRow}
 use Rattle.grades.specs.Rows.{HasGrades}

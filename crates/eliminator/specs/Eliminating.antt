@@ -6,7 +6,7 @@ use Prim.Native.Nat.{ℕ, _≤_}
 use lib.ListN.{length}
 use Rattle.types.specs.Candidates.{candidates}
 use Rattle.sections.specs.Terms.{termCount, termsOf, TermsRight}
-use Rattle.sections.specs.Rules.{rulesOf, RulesRight}
+use Rattle.claims.specs.Rules.{rulesOf, RulesRight}
 use Rattle.gradings.specs.Gradings.{grading}
 use Rattle.gradings.specs.declared.Logic.{Logic}
 use Rattle.slots.specs.Slots.{slotCount, SlotsOf}

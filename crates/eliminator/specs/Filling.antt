@@ -9,7 +9,7 @@ use Rattle.chain.specs.Search.{rank}
 use Rattle.semantics.specs.Interpretations.{Grading}
 use Rattle.semantics.specs.Books.{Rule}
 use Rattle.types.specs.Candidates.{gradeIn}
-use Rattle.sections.specs.Rules.{ruleCount, ruleAt}
+use Rattle.claims.specs.Rules.{ruleCount, ruleAt}
 use Rattle.slots.specs.Slots.{slotCount, slotChild, slotTerm}
 use Rattle.elimination.specs.Survivors.{Obeys}
 use Rattle.elimination.specs.Marks.{Marked, marked?}

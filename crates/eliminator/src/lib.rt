@@ -5,7 +5,7 @@ ghost use mathlib.Core.List.{_++_};
 ghost use Prim.Native.Nat.{ℕ, _+_, _<_, _≤_};
 ghost use lib.ListN.{length, getD, take, drop};
 ghost use Rattle.sections.specs.Terms.{termsOf};
-ghost use Rattle.sections.specs.Rules.{rulesOf, RulesRight};
+ghost use Rattle.claims.specs.Rules.{rulesOf, RulesRight};
 ghost use Rattle.gradings.specs.Gradings.{grading};
 ghost use Rattle.elimination.specs.Survivors.{survivors};
 ghost use Rattle.elimination.specs.Marks.{marksOf};

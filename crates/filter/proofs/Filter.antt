@@ -17,7 +17,7 @@ use Rattle.chain.proofs.Blocks.{block-kept, each-block-more}
 use Rattle.semantics.specs.Terms.{Ordered}
 use Rattle.semantics.specs.Books.{Claimed}
 use Rattle.sections.specs.Terms.{termCount, termsOf}
-use Rattle.sections.specs.Claims.{membershipAt}
+use Rattle.claims.specs.Claims.{membershipAt}
 use Rattle.sections.proofs.Terms.{length-terms, terms-ordered}
 use Rattle.gradings.specs.Gradings.{grading}
 use Rattle.gradings.specs.declared.Logic.{Logic}

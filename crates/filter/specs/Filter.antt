@@ -9,7 +9,7 @@ use lib.ListN.{getD, take}
 use Rattle.semantics.specs.Books.{Claimed}
 use Rattle.types.specs.Candidates.{gradeIn}
 use Rattle.sections.specs.Terms.{termCount, termsOf, TermsRight}
-use Rattle.sections.specs.Claims.{claimCount, membershipAt, MembershipsRight}
+use Rattle.claims.specs.Claims.{claimCount, membershipAt, MembershipsRight}
 use Rattle.gradings.specs.Gradings.{grading}
 use Rattle.gradings.specs.declared.Logic.{Logic}
 use Rattle.slots.specs.Slots.{SlotsOf}

@@ -4,12 +4,13 @@ ghost use mathlib.Core.Logic.{_↔_};
 ghost use Prim.Native.Nat.{ℕ, _*_, _<_, _≤_};
 ghost use lib.ListN.{length, getD};
 ghost use Rattle.chain.specs.Decisions.{Tells};
-ghost use Rattle.sections.specs.Claims.{claimCount, membershipAt};
+ghost use Rattle.claims.specs.Claims.{claimCount, membershipAt};
 ghost use Rattle.slots.specs.Slots.{slotCount};
 ghost use Rattle.grades.specs.Rows.{entry};
 ghost use Rattle.network.specs.Network.{Wired};
 ghost use Rattle.domains.specs.Consistent.{Problem};
 ghost use Rattle.filter.specs.Filter.{Task, ClaimsBelow, MembershipBy, MembershipsBy, Admits, Column, Entered, Filtered};
+use claims::claimed;
 use encoding::wide;
 use grades::fill_row;
 use gradings::Logic;
@@ -17,7 +18,6 @@ use network::all_met;
 use network::between;
 use network::put_row;
 use network::row_at;
-use sections::claimed;
 
 // ---- by the grades of a candidate, and its row of slots
 

@@ -17,7 +17,7 @@ use Rattle.semantics.specs.Terms.{Term, bottom, Children}
 use Rattle.semantics.specs.Interpretations.{WellFormed, OnChain, gradeAt}
 use Rattle.semantics.specs.Books.{nameAbove, roleAbove}
 use Rattle.semantics.proofs.Interpretations.{atElements-same, gradeAt-local, gradeAt-le}
-use Rattle.sections.specs.Terms.{termOf, quantifierOf, kindAt, aAt, bAt, termCount, termAt, termsOf, InRange}
+use Rattle.sections.specs.Terms.{termOf, quantifierOf, kindAt, aAt, bAt, termCount, termAt, termsOf, Described}
 use Rattle.sections.proofs.Terms.{by-kind, term-kind, length-terms, term-at, terms-ordered}
 use Rattle.gradings.specs.Gradings.{connectivesOf, grading}
 use Rattle.gradings.specs.declared.Logic.{Logic}
@@ -95,8 +95,8 @@ module _ {s : List ℕ} {lg : Logic} {n A R : ℕ} {names links : List ℕ} (w :
     pub reached : (v : List ℕ) → 4096 ≤ length v → (e : ℕ) → e < n → 4 ≤ kindAt s i → kindAt s i ≤ 5 → Reached n links v (aAt s i) (bAt s i) e
     reached v long e l lo hi =
         let operands =
-        by-quantified (λ k. roleAbove (termOf k (aAt s i) (bAt s i)) ≤ R → InRange i (termOf k (aAt s i) (bAt s i)) → (aAt s i < R) × (bAt s i < i))
-        (λ m r. (m, r .1)) (λ m r. (m, r .1)) (kindAt s i) lo hi (counted s roleAbove R (w .roles-counted) i h) (w .right i h .0 .0) in
+        by-quantified (λ k. roleAbove (termOf k (aAt s i) (bAt s i)) ≤ R → Described i k (aAt s i) (bAt s i) → (aAt s i < R) × (bAt s i < i))
+        (λ m r. (m, r .1)) (λ m r. (m, r .1)) (kindAt s i) lo hi (counted s roleAbove R (w .roles-counted) i h) (w .right i h .0) in
         record {
           few-elements = w .few-elements;
           element = l;

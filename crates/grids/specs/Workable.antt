@@ -29,8 +29,8 @@ pub record Workable (s : List ℕ) (l : Logic) (n A R : ℕ) (names links : List
 
 module _ (s : List ℕ) (l : Logic) (n A : ℕ) (names links : List ℕ) where
   -- .. for some number of roles: the code looks at those that the terms name
-  abbrev pub Ready : Type 0
-  Ready = (R : ℕ) × Workable s l n A R names links
+  abbrev pub Evaluable : Type 0
+  Evaluable = (R : ℕ) × Workable s l n A R names links
 
   -- the columns hold the grades of the first k terms; wherever the individuals are, since no grade looks at them
   abbrev pub WorkedTo : (k : ℕ) → List ℕ → Type 0

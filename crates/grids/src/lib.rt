@@ -5,9 +5,9 @@ ghost use Prim.Native.Nat.{ℕ, _+_, _*_, _<_, _≤_};
 ghost use lib.ListN.{length, getD, take, drop};
 ghost use Rattle.chain.specs.Connectives.{neutral as neutralOf, join as joinOf};
 ghost use Rattle.chain.specs.Lists.{table};
-ghost use Rattle.sections.specs.Terms.{termOf, quantifierOf, termCount, termAt, InRange};
+ghost use Rattle.sections.specs.Terms.{termOf, quantifierOf, termCount, termAt, Described};
 ghost use Rattle.grids.specs.Columns.{cellAt, columnCount, rowsOf};
-ghost use Rattle.grids.specs.Workable.{Workable, Ready, WorkedTo, WorkedAll, Reached, gradeFrom, takenOver, takenAt};
+ghost use Rattle.grids.specs.Workable.{Workable, Evaluable, WorkedTo, WorkedAll, Reached, gradeFrom, takenOver, takenAt};
 use gradings::Logic;
 use gradings::conjunction;
 use gradings::disjunction;
@@ -115,7 +115,7 @@ fn name_grade(names: &[u8], a: usize, name: u8, e: usize) -> u8
 
 // Of term `i`, by its three bytes, where it is no name and not quantified: its children's grades at `e` decide.
 fn plain_grade(kind: u8, x: u8, y: u8, i: usize, logic: Logic, values: &[u8], e: usize) -> u8
-    requires { ⌜ (i ≤ columnCount (now values)) × (e < 64) × InRange i (termOf kind x y) ⌝ }
+    requires { ⌜ (i ≤ columnCount (now values)) × (e < 64) × Described i kind x y ⌝ }
     requires { ⌜ ((j : ℕ) → j < i → cellAt (now values) j e ≤ logic .steps) ⌝ }
     requires { ⌜ (kind ≡ 0 → ⊥) × (kind ≡ 4 → ⊥) × (kind ≡ 5 → ⊥) ⌝ }
     ensures { λ r. ⌜ ((n A : ℕ) (ns ls : List ℕ) → r ≡ gradeFrom logic n A ns ls (now (values .entry)) i (termOf kind x y) e) ⌝ }
@@ -141,7 +141,7 @@ fn grade(
     values: &[u8],
     e: usize,
 ) -> u8
-    requires { ⌜ Ready (now terms) logic n a (now names) (now links) ⌝ }
+    requires { ⌜ Evaluable (now terms) logic n a (now names) (now links) ⌝ }
     requires { ⌜ (i < termCount (now terms)) × (e < n) × (4096 ≤ length (now values)) ⌝ }
     requires { ⌜ WorkedTo (now terms) logic n a (now names) (now links) i (now values) ⌝ }
     ensures { λ r. ⌜ r ≡ gradeFrom logic n a (now (names .entry)) (now (links .entry)) (now (values .entry)) i (termAt (now (terms .entry)) i) e ⌝ }
@@ -169,7 +169,7 @@ fn fill_column(
     links: &[u8],
     values: &mut [u8],
 )
-    requires { ⌜ Ready (now terms) logic n a (now names) (now links) ⌝ }
+    requires { ⌜ Evaluable (now terms) logic n a (now names) (now links) ⌝ }
     requires { ⌜ (i < termCount (now terms)) × (4096 ≤ length (now values)) ⌝ }
     requires { ⌜ WorkedTo (now terms) logic n a (now names) (now links) i (now values) ⌝ }
     ensures { λ r. ⌜ WorkedTo (now (terms .entry)) logic n a (now (names .entry)) (now (links .entry)) (i + 1) (now (values .exit)) ⌝ }

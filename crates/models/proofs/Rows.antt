@@ -13,15 +13,14 @@ use Rattle.chain.specs.Lists.{table, index}
 use Rattle.chain.proofs.Decisions.{tells-map, tells-eq}
 use Rattle.chain.proofs.Lists.{length-table}
 use Rattle.semantics.specs.Terms.{Term, name, term}
-use Rattle.semantics.specs.Interpretations.{Grading}
+use Rattle.semantics.specs.Interpretations.{Grading, Agree}
 use Rattle.types.specs.Candidates.{named?, bearer, gradeIn}
-use Rattle.sections.specs.Terms.{kindByte, aByte, kindAt, aAt, termCount, termsOf, TermsRight}
-use Rattle.sections.proofs.Terms.{term-kind, term-at, terms-ordered}
+use Rattle.sections.specs.Terms.{kindAt, aAt, termCount, termsOf, TermsRight}
+use Rattle.sections.proofs.Terms.{term-kind, term-at, terms-ordered, name-bytes}
 use Rattle.gradings.specs.Gradings.{grading}
 use Rattle.gradings.specs.declared.Logic.{Logic}
 use Rattle.grades.specs.Rows.{rowAt}
 use Rattle.grades.proofs.Rows.{rows-between}
-use Rattle.working.proofs.Agreement.{Agree}
 use Rattle.sheets.specs.Layout.{linksAt, individualsAt, endAt, Indexable}
 use Rattle.sheets.specs.Writing.{sheetBytes}
 use Rattle.sheets.specs.declared.Shape.{Shape}
@@ -35,12 +34,12 @@ use Rattle.models.proofs.Filling.{pasted, paste-four}
 
 module _ (s : List ℕ) (ok : TermsRight s) (i a : ℕ) (h : i < termCount s) where
   pub name-not : ¬ (kindAt s i ≡ 0) → ¬ (term (termsOf s) i ≡ name a)
-  name-not n e = n (sym (ok i h .0 .1) ∙ ap kindByte (sym (term-at s i h) ∙ e))
+  name-not n e = n (name-bytes s ok i a h e .0)
 
   pub name-tells : (x : ℕ) → kindAt s i ≡ 0 → x ≡ aAt s i → Tells (eqb x a) (term (termsOf s) i ≡ name a)
   name-tells x k q =
       tells-map (eqb x a) (λ e. term-at s i h ∙ term-kind s i 0 k ∙ ap name (sym q ∙ e))
-      (λ e. q ∙ sym (ok i h .0 .2) ∙ ap aByte (sym (term-at s i h) ∙ e)) (tells-eq x a)
+      (λ e. q ∙ name-bytes s ok i a h e .1) (tells-eq x a)
 
 -- ---- a name's grade in a row
 

@@ -8,7 +8,7 @@ use native.Mathlib.Decide.{ℕ-discrete}
 use native.Mathlib.Omega.{arith}
 use lib.ListN.{length, getD, set}
 use lib.Seq.{getD-set-same, getD-set-other}
-use Rattle.sections.specs.Claims.{claimCount, linkAt, LinksRight}
+use Rattle.claims.specs.Claims.{claimCount, linkAt, LinksRight}
 use Rattle.network.specs.Levels.{pairOf, levelAt, ClaimsRanged, LevelsOf}
 
 -- where the level of claim i stands

@@ -14,7 +14,7 @@ use Rattle.semantics.specs.Terms.{Term, Ordered}
 use Rattle.semantics.specs.Interpretations.{Grading}
 use Rattle.semantics.specs.Links.{Governs, Allows}
 use Rattle.semantics.proofs.Links.{Graded, allows-down, up-to-link}
-use Rattle.sections.specs.Claims.{claimCount, linkAt, LinksRight}
+use Rattle.claims.specs.Claims.{claimCount, linkAt, LinksRight}
 use Rattle.gradings.specs.Gradings.{grading}
 use Rattle.gradings.specs.declared.Logic.{Logic}
 use Rattle.gradings.proofs.Gradings.{grading-well-formed}
@@ -24,7 +24,7 @@ use Rattle.slots.proofs.Slots.{slot-child, slots-allow}
 use Rattle.network.specs.declared.Constraint.{Constraint}
 use Rattle.network.specs.Levels.{levelAt, LevelsOf}
 use Rattle.boxes.specs.Boxes.{OnChain}
-use Rattle.network.specs.Constraints.{constraintAt, Met, AllMet, Right, AllRight}
+use Rattle.network.specs.Constraints.{constraintAt, Met, AllMet, ConstraintRight, AllRight}
 use Rattle.network.specs.Network.{constraintsOf, ofSlot, NetworkOf, ClaimsMet, SlotAdded, Added, Connected}
 use Rattle.network.proofs.Constraints.{same-constraint, part-count, part-at, putAt, put-kept, put-at}
 use Rattle.network.proofs.Levels.{levels-le}
@@ -167,7 +167,7 @@ module _ (l : Logic) (ts : List Term) (o : Ordered ts) (slots : List ℕ) (S : S
     pub network-right : AllRight l (2 * slotCount slots) (constraintsOf net ends x)
     network-right y h =
         let w = of .lists x hx .are y (omega arith) h in
-        subst (Right l (2 * slotCount slots)) (sym (w .2)) (record {
+        subst (ConstraintRight l (2 * slotCount slots)) (sym (w .2)) (record {
           kinds = S .kinds (w .0) (w .1);
           level-le = levels-le ls levels (l .steps) links (of .levels-of) (slotRole slots (w .0)) x (roles (w .0) (w .1)) hx;
           own-lt = omega (arith, w .1);

@@ -27,11 +27,11 @@ abbrev pub AllMet : Logic → (s a b : List ℕ) → Type 0
 AllMet l s a b = (y : ℕ) → y < constraintCount s → Met l (constraintAt s y) a b
 
 -- a constraint on columns below m, on the chain
-pub record Right (l : Logic) (m : ℕ) (k : Constraint) : Type 0 where
+pub record ConstraintRight (l : Logic) (m : ℕ) (k : Constraint) : Type 0 where
   pub kinds : (4 ≤ k .kind) × (k .kind ≤ 5)
   pub level-le : k .level ≤ l .steps
   pub own-lt : k .own < m
   pub child-lt : k .child < m
 
 abbrev pub AllRight : Logic → (m : ℕ) (s : List ℕ) → Type 0
-AllRight l m s = (y : ℕ) → y < constraintCount s → Right l m (constraintAt s y)
+AllRight l m s = (y : ℕ) → y < constraintCount s → ConstraintRight l m (constraintAt s y)

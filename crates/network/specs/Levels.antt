@@ -5,7 +5,7 @@ use mathlib.Core.List.{List}
 use Prim.Native.Nat.{ℕ, _+_, _*_, _≤_, _<_}
 use lib.ListN.{getD}
 use Rattle.semantics.specs.Books.{LinkClaim}
-use Rattle.sections.specs.Claims.{claimCount, linkAt}
+use Rattle.claims.specs.Claims.{claimCount, linkAt}
 
 -- the pair of individuals that a link claim is about
 abbrev pub pairOf : LinkClaim → ℕ

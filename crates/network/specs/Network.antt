@@ -6,7 +6,7 @@ use Prim.Native.Nat.{ℕ, _+_, _-_, _*_, _≤_, _<_}
 use lib.ListN.{length, getD, take, drop}
 use Rattle.semantics.specs.Interpretations.{Grading}
 use Rattle.semantics.specs.Links.{Allows}
-use Rattle.sections.specs.Claims.{claimCount, linkAt}
+use Rattle.claims.specs.Claims.{claimCount, linkAt}
 use Rattle.gradings.specs.declared.Logic.{Logic}
 use Rattle.slots.specs.Slots.{slotCount, slotKind, slotRole}
 use Rattle.network.specs.Levels.{pairOf, levelAt, LevelsOf}

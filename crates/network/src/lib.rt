@@ -4,7 +4,7 @@ ghost use mathlib.Core.List.{List};
 ghost use Prim.Native.Nat.{ℕ, _+_, _*_, _<_, _≤_};
 ghost use lib.ListN.{length, getD, take};
 ghost use Rattle.chain.specs.Decisions.{Tells};
-ghost use Rattle.sections.specs.Claims.{claimCount};
+ghost use Rattle.claims.specs.Claims.{claimCount};
 ghost use Rattle.slots.specs.Slots.{slotCount, slotRole};
 ghost use Rattle.slots.specs.Rows.{TermsBelow, SlotRow};
 ghost use Rattle.grades.specs.Rows.{entry};

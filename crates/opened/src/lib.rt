@@ -9,11 +9,11 @@ ghost use Rattle.checker.specs.Asking.{gradeAnswer, linkAnswer};
 ghost use Rattle.checker.specs.Working.{workedOf, gridAfter};
 ghost use Rattle.decider.specs.Deciding.{decisionOf, marksAfter, placementAfter};
 ghost use Rattle.writer.specs.Writing.{writtenOf, sheetAfter};
-use book::Sections;
 use checker::Answer;
 use checker::Worked;
 use counter::Counted;
-use decider::Decision;
+use layout::Sections;
+use outcomes::Decision;
 use writer::Written;
 
 pub struct Book<'a> {

@@ -1,20 +1,19 @@
 -- Theorem C. The outcome says which models there are: outcome 1 if and only if some finite interpretation meets rules and claims, 2 if and
 -- only if the rules have a model but none meets the claims, 3 if and only if the rules have none.
 -- Assumes nothing.
-use mathlib.Core.Path.{_≡_, refl, ap, subst}
+use mathlib.Core.Path.{_≡_, refl, ap, subst, _∙_}
 use mathlib.Core.Logic.{_⊎_, inl, inr, ⊎-elim, _↔_}
 use mathlib.Core.Option.{Option, none, some}
 use mathlib.Core.List.{List, [], _∷_}
-use Prim.Native.Nat.{ℕ, suc, _≤_, _<_}
+use Prim.Native.Nat.{ℕ, _≤_, _<_}
 use native.Mathlib.Nat.{le-trans}
 use native.Mathlib.Omega.{arith}
 use lib.ListN.{length}
 use Rattle.chain.specs.Lists.{Each, Ascending, table, index}
 use Rattle.chain.proofs.Lists.{mem-at, at-mem, each-mem, each-map₂, each-map₃, length-table, getD-table, each-table, each-highest, index-lt, at-index}
-use Rattle.semantics.specs.Interpretations.{Grading}
-use Rattle.semantics.specs.Books.{Book, Claimed, membershipIndividuals, linkIndividuals, individuals, Valid, MeetsMembership, MeetsLink, RuleModel, MeetsClaims, RulesSatisfiable, Satisfiable}
+use Rattle.semantics.specs.Interpretations.{Grading, Interpretation, gradeAt}
+use Rattle.semantics.specs.Books.{Book, MembershipClaim, TermInRange, membershipIndividuals, linkIndividuals, individuals, Valid, MeetsMembership, MeetsLink, RuleModel, MeetsClaims, RulesSatisfiable, Satisfiable}
 use Rattle.types.specs.Candidates.{gradeIn, typeOf}
-use Rattle.types.specs.Links.{link}
 use Rattle.types.proofs.Candidates.{typeOf-has}
 use Rattle.elimination.specs.Survivors.{Survives}
 use Rattle.elimination.specs.Listed.{listed, listedTypes}
@@ -22,7 +21,7 @@ use Rattle.elimination.proofs.Survivors.{survivors-ascending}
 use Rattle.elimination.proofs.Complete.{complete, link-of-types}
 use Rattle.elimination.proofs.Listed.{listed-has, listed-meets}
 use Rattle.placement.specs.Dictionary.{Drawn, Foremost, Nowhere, Finds}
-use Rattle.placement.specs.Outcome.{seat, survivorsOf, HoldsMembership, HoldsLink, Holds, HoldsAt, Unmentioned, holds?, placementAmong, placement, outcomeOf, outcome, placedTypes}
+use Rattle.placement.specs.Outcome.{seat, survivorsOf, HoldsMembership, HoldsLink, HoldsAt, Unmentioned, holds?, placementAmong, placement, outcomeOf, outcome, placedTypes, seatedAs}
 use Rattle.placement.proofs.Dictionary.{seek-finds}
 
 module _ (B : Book) where
@@ -100,7 +99,7 @@ module _ (B : Book) where
         )
 
     -- and back: each individual at the element of its type
-    module _ (h : 0 < length (survivorsOf B)) (p : List ℕ) (v : Placed p) where
+    module _ (h : 0 < length (survivorsOf B)) (p : List ℕ) (v : Drawn (survivorsOf B) (individuals B) p) where
       abbrev at : ℕ → ℕ
       at j = index (survivorsOf B) (seat p j)
 
@@ -109,16 +108,31 @@ module _ (B : Book) where
 
       -- individual j sits at its placed type
       pub placed-seat : (j : ℕ) → j < individuals B → listed G (B .rules) (at j) ≡ seat p j
-      placed-seat j u = at-index (survivorsOf B) (seat p j) (each-mem (Survives G (B .rules)) p (v .0 .1) (seat p j) (mem-at p j 0 (omega (arith, v .0 .0))))
+      placed-seat j u = at-index (survivorsOf B) (seat p j) (each-mem (Survives G (B .rules)) p (v .1) (seat p j) (mem-at p j 0 (omega (arith, v .0))))
 
-      pub placed-claims : MeetsClaims B (placedTypes B p)
-      placed-claims = record {
-        memberships-met = each-map₃ {R = HoldsMembership B (seat p)} {S = MeetsMembership G (placedTypes B p)} (λ q t u g.
-            rw (listed-has G (B .rules) (w .well-formed) h at (at (q .individual)) (seated (q .individual)) (q .term) t, placed-seat (q .individual) u) g)
-            (B .memberships) (w .terms-in) members-in (v .1 .0);
+      -- what a term is graded there
+      grade-there : (q : MembershipClaim) → TermInRange G q → membershipIndividuals q ≤ individuals B
+          → gradeAt G (placedTypes B p) (q .term) (at (q .individual)) ≡ gradeIn G (seat p (q .individual)) (q .term)
+      grade-there q t u =
+          listed-has G (B .rules) (w .well-formed) h at (at (q .individual)) (seated (q .individual)) (q .term) t
+          ∙ ap (λ (c : ℕ). gradeIn G c (q .term)) (placed-seat (q .individual) u)
+
+      -- the claims hold of the placement if and only if the types' interpretation meets them
+      pub placed-claims : HoldsAt B p → MeetsClaims B (placedTypes B p)
+      placed-claims v = record {
+        memberships-met = each-map₃ {R = HoldsMembership B (seat p)} {S = MeetsMembership G (placedTypes B p)} (λ q t u g. rw (grade-there q t u) g)
+            (B .memberships) (w .terms-in) members-in (v .0);
         links-met = each-map₂ {Q = HoldsLink B (seat p)} {R = MeetsLink (placedTypes B p)} (λ q u g.
-            rw (placed-seat (q .source) (omega arith), placed-seat (q .target) (omega arith)) g) (B .links) links-in (v .1 .1);
+            rw (placed-seat (q .source) (omega arith), placed-seat (q .target) (omega arith)) g) (B .links) links-in (v .1);
       }
+
+      pub claims-placed : MeetsClaims B (placedTypes B p) → HoldsAt B p
+      claims-placed m = (
+        each-map₃ {R = MeetsMembership G (placedTypes B p)} {S = HoldsMembership B (seat p)} (λ q t u g. rw (← grade-there q t u) g)
+            (B .memberships) (w .terms-in) members-in (m .memberships-met),
+        each-map₂ {Q = MeetsLink (placedTypes B p)} {R = HoldsLink B (seat p)} (λ q u g.
+            rw (← placed-seat (q .source) (omega arith), ← placed-seat (q .target) (omega arith)) g) (B .links) links-in (m .links-met),
+      )
 
       pub placed-rules : RuleModel G (B .rules) (placedTypes B p)
       placed-rules = listed-meets G (B .rules) (w .well-formed) h at (w .rules-in) seated
@@ -130,28 +144,35 @@ module _ (B : Book) where
         let u = outcome-placed e in
         let p = u .1 .0 in
         let v = u .1 .2 in
-        (p, u .1 .1, placed-rules (u .0) p v, placed-claims (u .0) p v, placed-seat (u .0) p v)
+        (p, u .1 .1, placed-rules (u .0) p (v .0), placed-claims (u .0) p (v .0) (v .1), placed-seat (u .0) p (v .0))
+
+    -- the placement is the first with which the types' interpretation meets the claims
+    pub placement-first-met : 0 < length (survivorsOf B) → (p : List ℕ) → placement B ≡ some p
+        → Foremost (survivorsOf B) (individuals B) (λ q. MeetsClaims B (placedTypes B q)) p
+    placement-first-met h p e =
+        let f = placement-first p e in
+        record { drawn = f .drawn; passes = placed-claims h p (f .drawn) (f .passes); foremost = λ q d m. f .foremost q d (claims-placed h q d m) }
 
     -- THEOREM C: the outcome says which of three is the case
-    abbrev pub Verdict : ℕ → Type 0
-    Verdict n = ((n ≡ 1) × Satisfiable B) ⊎ (((n ≡ 2) × RulesSatisfiable B × ¬ Satisfiable B) ⊎ ((n ≡ 3) × ¬ RulesSatisfiable B))
+    abbrev pub OutcomeSays : ℕ → Type 0
+    OutcomeSays n = ((n ≡ 1) × Satisfiable B) ⊎ (((n ≡ 2) × RulesSatisfiable B × ¬ Satisfiable B) ⊎ ((n ≡ 3) × ¬ RulesSatisfiable B))
 
-    pub verdict : Verdict (outcome B)
+    pub verdict : OutcomeSays (outcome B)
     unfolding outcome
     verdict = go (survivorsOf B) refl (placement B) placement-finds
       where
-        go : (xs : List ℕ) → survivorsOf B ≡ xs → (o : Option (List ℕ)) → Finds (survivorsOf B) (individuals B) (HoldsAt B) o → Verdict (outcomeOf B xs o)
+        go : (xs : List ℕ) → survivorsOf B ≡ xs → (o : Option (List ℕ)) → Finds (survivorsOf B) (individuals B) (HoldsAt B) o → OutcomeSays (outcomeOf B xs o)
         go [] e o f = inr (inr (refl, λ m. omega (arith, rules-satisfiable .0 m, ap length e)))
         go (c ∷ cs) e none f = inr (inl (refl, rules-satisfiable .1 (omega (arith, ap length e)), λ m. let u = model-placed m in f (u .0) (u .1 .0) (u .1 .1)))
         go (c ∷ cs) e (some p) f =
             let h : 0 < length (survivorsOf B) = omega (arith, ap length e) in
             let v : Placed p = (f .drawn, f .passes) in
-            inl (refl, (placedTypes B p, placed-rules h p v, placed-claims h p v))
+            inl (refl, (placedTypes B p, placed-rules h p (v .0), placed-claims h p (v .0) (v .1)))
 
     pub outcome-1 : (outcome B ≡ 1) ↔ Satisfiable B
     outcome-1 = go (outcome B) verdict
       where
-        go : (n : ℕ) → Verdict n → (n ≡ 1) ↔ Satisfiable B
+        go : (n : ℕ) → OutcomeSays n → (n ≡ 1) ↔ Satisfiable B
         go n (inl u) = (λ _. u .1, λ _. u .0)
         go n (inr (inl u)) = (λ e. absurd (omega (arith, u .0)), λ m. absurd (u .2 m))
         go n (inr (inr u)) = (λ e. absurd (omega (arith, u .0)), λ m. absurd (u .1 (m .0, m .1)))
@@ -159,7 +180,7 @@ module _ (B : Book) where
     pub outcome-2 : (outcome B ≡ 2) ↔ (RulesSatisfiable B × ¬ Satisfiable B)
     outcome-2 = go (outcome B) verdict
       where
-        go : (n : ℕ) → Verdict n → (n ≡ 2) ↔ (RulesSatisfiable B × ¬ Satisfiable B)
+        go : (n : ℕ) → OutcomeSays n → (n ≡ 2) ↔ (RulesSatisfiable B × ¬ Satisfiable B)
         go n (inl u) = (λ e. absurd (omega (arith, u .0)), λ m. absurd (m .1 (u .1)))
         go n (inr (inl u)) = (λ _. (u .1, u .2), λ _. u .0)
         go n (inr (inr u)) = (λ e. absurd (omega (arith, u .0)), λ m. absurd (u .1 (m .0)))
@@ -167,7 +188,7 @@ module _ (B : Book) where
     pub outcome-3 : (outcome B ≡ 3) ↔ (¬ RulesSatisfiable B)
     outcome-3 = go (outcome B) verdict
       where
-        go : (n : ℕ) → Verdict n → (n ≡ 3) ↔ (¬ RulesSatisfiable B)
+        go : (n : ℕ) → OutcomeSays n → (n ≡ 3) ↔ (¬ RulesSatisfiable B)
         go n (inl u) = (λ e. absurd (omega (arith, u .0)), λ m. absurd (m (u .1 .0, u .1 .1)))
         go n (inr (inl u)) = (λ e. absurd (omega (arith, u .0)), λ m. absurd (m (u .1)))
         go n (inr (inr u)) = (λ _. u .1, λ _. u .0)
@@ -175,15 +196,18 @@ module _ (B : Book) where
     pub unsatisfiable : ((outcome B ≡ 2) ⊎ (outcome B ≡ 3)) ↔ (¬ Satisfiable B)
     unsatisfiable = go (outcome B) verdict
       where
-        go : (n : ℕ) → Verdict n → ((n ≡ 2) ⊎ (n ≡ 3)) ↔ (¬ Satisfiable B)
+        go : (n : ℕ) → OutcomeSays n → ((n ≡ 2) ⊎ (n ≡ 3)) ↔ (¬ Satisfiable B)
         go n (inl u) = (λ e. absurd (⊎-elim (λ f. omega (arith, u .0)) (λ f. omega (arith, u .0)) e), λ m. absurd (m (u .1)))
         go n (inr (inl u)) = (λ _. u .2, λ _. inl (u .0))
         go n (inr (inr u)) = (λ _ m. u .1 (m .0, m .1), λ _. inr (u .0))
 
 -- where an individual that no claim mentions sits makes no difference
-pub unmentioned-same : (B : Book) (j : ℕ) → Unmentioned B j → (s s′ : ℕ → ℕ) → ((k : ℕ) → ¬ (k ≡ j) → s k ≡ s′ k) → Holds B s → Holds B s′
-unmentioned-same B j u s s′ same h = (
-  each-map₂ (λ q n g. subst (λ (c : ℕ). Claimed (q .sense) (q .grade) (gradeIn (B .grading) c (q .term))) (same (q .individual) n) g) (B .memberships) (u .0) (h .0),
-  each-map₂ (λ q n g. subst (λ (c : ℕ). q .grade ≤ link (B .grading) (q .role) c (s′ (q .target))) (same (q .source) (n .0))
-      (subst (λ (c : ℕ). q .grade ≤ link (B .grading) (q .role) (s (q .source)) c) (same (q .target) (n .1)) g)) (B .links) (u .1) (h .1),
-)
+pub unmentioned-met : (B : Book) (j : ℕ) → Unmentioned B j → (I : Interpretation) (at : ℕ → ℕ) → ((k : ℕ) → ¬ (k ≡ j) → at k ≡ I .element k)
+    → MeetsClaims B I → MeetsClaims B (seatedAs I at)
+unfolding gradeAt
+unmentioned-met B j u I at same m = record {
+  memberships-met = each-map₂ {Q = MeetsMembership (B .grading) I} {R = MeetsMembership (B .grading) (seatedAs I at)} (λ q n h.
+      rw (same (q .individual) n) h) (B .memberships) (u .0) (m .memberships-met);
+  links-met = each-map₂ {Q = MeetsLink I} {R = MeetsLink (seatedAs I at)} (λ q n h. rw (same (q .source) (n .0), same (q .target) (n .1)) h)
+      (B .links) (u .1) (m .links-met);
+}

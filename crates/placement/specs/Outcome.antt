@@ -79,3 +79,7 @@ module _ (B : Book) where
   -- the interpretation of the listed types, with the individuals as placed
   abbrev pub placedTypes : List ℕ → Interpretation
   placedTypes p = listedTypes (B .grading) (B .rules) (λ j. index survivorsOf (seat p j))
+
+-- an interpretation with the individuals seated otherwise
+abbrev pub seatedAs : Interpretation → (ℕ → ℕ) → Interpretation
+seatedAs I at = record { size = I .size; names = I .names; links = I .links; element = at }

@@ -16,9 +16,9 @@ use Rattle.semantics.specs.Links.{Allows}
 use Rattle.types.proofs.Candidates.{gradeIn-le}
 use Rattle.types.proofs.Links.{link-allows}
 use Rattle.sections.specs.Terms.{termCount, termsOf}
-use Rattle.sections.specs.Claims.{claimCount, membershipAt, linkAt, membershipsOf, linksOf}
+use Rattle.claims.specs.Claims.{claimCount, membershipAt, linkAt, membershipsOf, linksOf}
 use Rattle.sections.proofs.Terms.{terms-ordered}
-use Rattle.sections.proofs.Claims.{individuals-few}
+use Rattle.claims.proofs.Claims.{individuals-few}
 use Rattle.gradings.specs.Gradings.{grading}
 use Rattle.gradings.specs.declared.Logic.{Logic}
 use Rattle.gradings.proofs.Gradings.{grading-well-formed}

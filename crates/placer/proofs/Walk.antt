@@ -15,7 +15,7 @@ use Rattle.chain.specs.Decisions.{dec-and}
 use Rattle.chain.specs.Lists.{from, Ascending}
 use Rattle.placement.specs.Dictionary.{Finds, tryEach, seek}
 use Rattle.placement.proofs.Dictionary.{seek-finds}
-use Rattle.placer.specs.Walk.{through, walk, placed}
+use Rattle.placer.specs.Walk.{further, walk, placed}
 
 -- ---- placed or not
 
@@ -75,15 +75,15 @@ seek-none p n xs (suc k) = try-none _ (λ y. seek-none (λ l. p (y ∷ l)) (λ l
 module _ (May : List ℕ → ℕ → Type 0) (may? : (q : List ℕ) (c : ℕ) → Dec (May q c)) where
   -- ---- one turn, over the candidates below count
 
-  pub through-not : (w : List ℕ → Option (List ℕ)) (q : List ℕ) (c : ℕ) → ¬ May q c → through May may? w q c ≡ none
-  through-not w q c n = go (may? q c)
+  pub further-not : (w : List ℕ → Option (List ℕ)) (q : List ℕ) (c : ℕ) → ¬ May q c → further May may? w q c ≡ none
+  further-not w q c n = go (may? q c)
     where
       go : (d : Dec (May q c)) → ite d (w (q ++ c ∷ [])) none ≡ none
       go (yes m) = absurd (n m)
       go (no _) = refl
 
-  pub through-may : (w : List ℕ → Option (List ℕ)) (q : List ℕ) (c : ℕ) → May q c → through May may? w q c ≡ w (q ++ c ∷ [])
-  through-may w q c m = go (may? q c)
+  pub further-may : (w : List ℕ → Option (List ℕ)) (q : List ℕ) (c : ℕ) → May q c → further May may? w q c ≡ w (q ++ c ∷ [])
+  further-may w q c m = go (may? q c)
     where
       go : (d : Dec (May q c)) → ite d (w (q ++ c ∷ [])) none ≡ w (q ++ c ∷ [])
       go (yes _) = refl
@@ -93,19 +93,19 @@ module _ (May : List ℕ → ℕ → Type 0) (may? : (q : List ℕ) (c : ℕ) �
     -- the rest of the search from the candidate c on, where k individuals follow the next one
     unfoldable pub rest : ℕ → Option (List ℕ)
     unfolding tryEach walk from
-    rest c = tryEach (through May may? (walk May may? (from 0 count) k) q) (from c (count - c))
+    rest c = tryEach (further May may? (walk May may? (from 0 count) k) q) (from c (count - c))
 
     pub rest-start : (left : ℕ) → left ≡ suc k → walk May may? (from 0 count) left q ≡ rest 0
     unfolding rest walk
     rest-start left e =
         ap (λ (j : ℕ). walk May may? (from 0 count) j q) e
-        ∙ ap (λ (j : ℕ). tryEach (through May may? (walk May may? (from 0 count) k) q) (from 0 j)) (sym (sub-zero count))
+        ∙ ap (λ (j : ℕ). tryEach (further May may? (walk May may? (from 0 count) k) q) (from 0 j)) (sym (sub-zero count))
 
     pub rest-end : (c : ℕ) → count ≤ c → rest c ≡ none
     unfolding rest tryEach from
     rest-end c h =
         let e : count - c ≡ 0 = omega arith in
-        ap (λ (j : ℕ). tryEach (through May may? (walk May may? (from 0 count) k) q) (from c j)) e
+        ap (λ (j : ℕ). tryEach (further May may? (walk May may? (from 0 count) k) q) (from c j)) e
 
     step : (c : ℕ) → c < count → from c (count - c) ≡ c ∷ from (c + 1) (count - (c + 1))
     unfolding from
@@ -113,14 +113,14 @@ module _ (May : List ℕ → ℕ → Type 0) (may? : (q : List ℕ) (c : ℕ) �
         let e : count - c ≡ suc (count - (c + 1)) = omega arith in
         ap (from c) e ∙ ap (λ (z : ℕ). c ∷ from z (count - (c + 1))) (sym (add-one c))
 
-    pub rest-past : (c : ℕ) → c < count → through May may? (walk May may? (from 0 count) k) q c ≡ none → rest c ≡ rest (c + 1)
+    pub rest-past : (c : ℕ) → c < count → further May may? (walk May may? (from 0 count) k) q c ≡ none → rest c ≡ rest (c + 1)
     unfolding rest
     rest-past c h e =
-        ap (tryEach (through May may? (walk May may? (from 0 count) k) q)) (step c h)
-        ∙ try-next (through May may? (walk May may? (from 0 count) k) q) c (from (c + 1) (count - (c + 1))) e
+        ap (tryEach (further May may? (walk May may? (from 0 count) k) q)) (step c h)
+        ∙ try-next (further May may? (walk May may? (from 0 count) k) q) c (from (c + 1) (count - (c + 1))) e
 
     pub rest-not : (c : ℕ) → c < count → ¬ May q c → rest c ≡ rest (c + 1)
-    rest-not c h n = rest-past c h (through-not (walk May may? (from 0 count) k) q c n)
+    rest-not c h n = rest-past c h (further-not (walk May may? (from 0 count) k) q c n)
 
     -- over candidates none of which may follow
     pub rest-skip : (c g : ℕ) → ((e : ℕ) → c ≤ e → e < c + g → ¬ May q e) → rest c ≡ rest (c + g)
@@ -133,14 +133,14 @@ module _ (May : List ℕ → ℕ → Type 0) (may? : (q : List ℕ) (c : ℕ) �
 
     module _ (c : ℕ) (h : c < count) (m : May q c) where
       pub rest-back : walk May may? (from 0 count) k (q ++ c ∷ []) ≡ none → rest c ≡ rest (c + 1)
-      rest-back e = rest-past c h (through-may (walk May may? (from 0 count) k) q c m ∙ e)
+      rest-back e = rest-past c h (further-may (walk May may? (from 0 count) k) q c m ∙ e)
 
       pub rest-found : (p : List ℕ) → walk May may? (from 0 count) k (q ++ c ∷ []) ≡ some p → rest c ≡ some (c ∷ p)
       unfolding rest
       rest-found p e =
-          ap (tryEach (through May may? (walk May may? (from 0 count) k) q)) (step c h)
-          ∙ try-found (through May may? (walk May may? (from 0 count) k) q) c (from (c + 1) (count - (c + 1))) p
-          (through-may (walk May may? (from 0 count) k) q c m ∙ e)
+          ap (tryEach (further May may? (walk May may? (from 0 count) k) q)) (step c h)
+          ∙ try-found (further May may? (walk May may? (from 0 count) k) q) c (from (c + 1) (count - (c + 1))) p
+          (further-may (walk May may? (from 0 count) k) q c m ∙ e)
 
   -- ---- what is found
 

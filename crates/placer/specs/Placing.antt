@@ -7,8 +7,8 @@ use Prim.Native.Nat.{ℕ, _≤_}
 use lib.ListN.{length, take}
 use Rattle.semantics.specs.Books.{Book, individuals}
 use Rattle.sections.specs.Terms.{termCount, termsOf, TermsRight}
-use Rattle.sections.specs.Claims.{MembershipsRight, LinksRight}
-use Rattle.sections.specs.Books.{bookOfSections}
+use Rattle.claims.specs.Claims.{MembershipsRight, LinksRight}
+use Rattle.claims.specs.Books.{bookOfSections}
 use Rattle.gradings.specs.Gradings.{grading}
 use Rattle.gradings.specs.declared.Logic.{Logic}
 use Rattle.slots.specs.Slots.{slotCount, SlotsOf}

@@ -2,65 +2,32 @@
 -- Assumes nothing.
 use mathlib.Core.Path.{_≡_, refl, sym, ap, subst, _∙_}
 use mathlib.Core.Bool.{Bool}
-use mathlib.Core.Logic.{_⊎_, ⊎-elim}
+use mathlib.Core.Logic.{_⊎_, ⊎-elim, dite}
 use mathlib.Core.List.{List, [], _∷_, flatMap}
 use Prim.Native.Nat.{ℕ, zero, suc, _*_, _≤_, _<_}
 use native.Mathlib.Nat.{add-zero}
+use native.Mathlib.Decide.{decLt}
 use native.Mathlib.Omega.{arith}
-use lib.ListN.{length}
+use lib.ListN.{length, List·getD-eq-default}
 use Rattle.chain.specs.Decisions.{Tells}
 use Rattle.chain.specs.Lists.{highest, table}
 use Rattle.chain.specs.Connectives.{Quantifier, existential, universal}
-use Rattle.chain.proofs.Decisions.{tells-map}
 use Rattle.chain.proofs.Lists.{length-table, getD-table, highest-most}
 use Rattle.chain.proofs.Blocks.{blocks-whole}
 use Rattle.semantics.specs.Terms.{Term, name, not, and, or, some, all, top, bottom, term, Children, Ordered, NamesApart}
 use Rattle.semantics.specs.Quantified.{quantified}
 use Rattle.semantics.specs.Books.{nameAbove, roleAbove}
-use Rattle.sections.specs.Terms.{termOf, quantifierOf, kindByte, aByte, InRange, Described, kindAt, aAt, bAt, termCount, termAt, termsOf, TermsRight}
-
-kindByte-lt : (t : Term) → kindByte t < 8
-kindByte-lt (name a) = omega arith
-kindByte-lt (not c) = omega arith
-kindByte-lt (and c d) = omega arith
-kindByte-lt (or c d) = omega arith
-kindByte-lt (some r c) = omega arith
-kindByte-lt (all r c) = omega arith
-kindByte-lt top = omega arith
-kindByte-lt bottom = omega arith
+use Rattle.sections.specs.Terms.{termOf, quantifierOf, Described, kindAt, aAt, bAt, termCount, termAt, termsOf, TermsRight}
 
 -- the kind of a described term is 0 to 7
 pub described-kind : (i kind a b : ℕ) → Described i kind a b → kind < 8
-described-kind i kind a b d = omega (arith, kindByte-lt (termOf kind a b), d .1)
+described-kind i kind a b d =
+    dite (decLt kind 8) (λ h. h) (λ n. absurd (omega (arith, d .0, List·getD-eq-default (16 ∷ i ∷ i ∷ i ∷ 8 ∷ 8 ∷ 1 ∷ 1 ∷ []) 0 {n = kind} (omega arith))))
 
--- where the kind is known, each operand has a bound: a byte that must be 0 is below 1
+-- where the kind is known, each operand has its bound
 module _ (r : Bool) (kind i a b : ℕ) where
-  at-kind : (k : ℕ) → kind ≡ k → Tells r (Described i k a b) → Tells r (Described i kind a b)
-  at-kind k e t = subst (λ (z : ℕ). Tells r (Described i z a b)) (sym e) t
-
-  pub described-name : kind ≡ 0 → Tells r ((a < 16) × (b < 1)) → Tells r (Described i kind a b)
-  described-name e t = at-kind 0 e (tells-map r (λ h. (h .0, refl, refl, omega arith)) (λ d. (d .0, omega (arith, d .3))) t)
-
-  pub described-not : kind ≡ 1 → Tells r ((a < i) × (b < 1)) → Tells r (Described i kind a b)
-  described-not e t = at-kind 1 e (tells-map r (λ h. (h .0, refl, refl, omega arith)) (λ d. (d .0, omega (arith, d .3))) t)
-
-  pub described-and : kind ≡ 2 → Tells r ((a < i) × (b < i)) → Tells r (Described i kind a b)
-  described-and e t = at-kind 2 e (tells-map r (λ h. (h, refl, refl, refl)) (λ d. d .0) t)
-
-  pub described-or : kind ≡ 3 → Tells r ((a < i) × (b < i)) → Tells r (Described i kind a b)
-  described-or e t = at-kind 3 e (tells-map r (λ h. (h, refl, refl, refl)) (λ d. d .0) t)
-
-  pub described-some : kind ≡ 4 → Tells r ((a < 8) × (b < i)) → Tells r (Described i kind a b)
-  described-some e t = at-kind 4 e (tells-map r (λ h. (h, refl, refl, refl)) (λ d. d .0) t)
-
-  pub described-all : kind ≡ 5 → Tells r ((a < 8) × (b < i)) → Tells r (Described i kind a b)
-  described-all e t = at-kind 5 e (tells-map r (λ h. (h, refl, refl, refl)) (λ d. d .0) t)
-
-  pub described-top : kind ≡ 6 → Tells r ((a < 1) × (b < 1)) → Tells r (Described i kind a b)
-  described-top e t = at-kind 6 e (tells-map r (λ h. (tt, refl, omega arith, omega arith)) (λ d. (omega (arith, d .2), omega (arith, d .3))) t)
-
-  pub described-bottom : kind ≡ 7 → Tells r ((a < 1) × (b < 1)) → Tells r (Described i kind a b)
-  described-bottom e t = at-kind 7 e (tells-map r (λ h. (tt, refl, omega arith, omega arith)) (λ d. (omega (arith, d .2), omega (arith, d .3))) t)
+  pub described-at : (k : ℕ) → kind ≡ k → Tells r (Described i k a b) → Tells r (Described i kind a b)
+  described-at k e t = subst (λ (z : ℕ). Tells r (Described i z a b)) (sym e) t
 
 -- ---- by kinds
 
@@ -77,6 +44,22 @@ by-kind P a b p0 p1 p2 p3 p4 p5 p6 p7 p8 (suc (suc (suc (suc (suc (suc zero)))))
 by-kind P a b p0 p1 p2 p3 p4 p5 p6 p7 p8 (suc (suc (suc (suc (suc (suc (suc zero))))))) = p7
 by-kind P a b p0 p1 p2 p3 p4 p5 p6 p7 p8 (suc (suc (suc (suc (suc (suc (suc (suc k)))))))) = p8 (suc (suc (suc (suc (suc (suc (suc (suc k)))))))) (omega arith)
 
+-- a term's kind, by its number
+abbrev pub kindNumber : Term → ℕ
+kindNumber (name a) = 0
+kindNumber (not c) = 1
+kindNumber (and c d) = 2
+kindNumber (or c d) = 3
+kindNumber (some r c) = 4
+kindNumber (all r c) = 5
+kindNumber top = 6
+kindNumber bottom = 7
+
+pub kind-number : (kind a b : ℕ) → kind < 8 → kindNumber (termOf kind a b) ≡ kind
+kind-number kind a b =
+    by-kind (λ k t. k < 8 → kindNumber t ≡ k) a b (λ _. refl) (λ _. refl) (λ _. refl) (λ _. refl) (λ _. refl) (λ _. refl) (λ _. refl) (λ _. refl)
+    (λ k h l. omega arith) kind
+
 -- no other kind is described
 pub described-other : (i kind a b : ℕ) → ¬ (kind ≡ 0) → ¬ (kind ≡ 1) → ¬ (kind ≡ 2) → ¬ (kind ≡ 3) → ¬ (kind ≡ 4) → ¬ (kind ≡ 5) → ¬ (kind ≡ 6) → ¬ (kind ≡ 7)
     → ¬ Described i kind a b
@@ -91,8 +74,8 @@ module _ (s : List ℕ) (i : ℕ) where
   pub term-kind : (k : ℕ) → kindAt s i ≡ k → termAt s i ≡ termOf k (aAt s i) (bAt s i)
   term-kind k e = ap (λ (z : ℕ). termOf z (aAt s i) (bAt s i)) e
 
-  pub range-kind : TermsRight s → i < termCount s → (k : ℕ) → kindAt s i ≡ k → InRange i (termOf k (aAt s i) (bAt s i))
-  range-kind ok h k e = subst (InRange i) (term-kind k e) (ok i h .0 .0)
+  pub range-kind : TermsRight s → i < termCount s → (k : ℕ) → kindAt s i ≡ k → Described i k (aAt s i) (bAt s i)
+  range-kind ok h k e = subst (λ (z : ℕ). Described i z (aAt s i) (bAt s i)) e (ok i h .0)
 
 -- ---- the section's terms
 
@@ -117,23 +100,16 @@ module _ (s : List ℕ) where
     pub terms-ordered : Ordered (termsOf s)
     terms-ordered i l =
         let h : i < termCount s = rw (← length-terms) l in
-        subst (Children i) (sym (term-at i h)) (go i (termAt s i) (ok i h .0 .0))
-      where
-        go : (i : ℕ) (t : Term) → InRange i t → Children i t
-        go i (name a) h = tt
-        go i (not c) h = h
-        go i (and c d) h = h
-        go i (or c d) h = h
-        go i (some r c) h = h .1
-        go i (all r c) h = h .1
-        go i top h = tt
-        go i bottom h = tt
+        subst (Children i) (sym (term-at i h))
+        (by-kind (λ k t. Described i k (aAt s i) (bAt s i) → Children i t) (aAt s i) (bAt s i)
+        (λ _. tt) (λ d. d .0) (λ d. d) (λ d. d) (λ d. d .1) (λ d. d .1) (λ _. tt) (λ _. tt) (λ k _ _. tt) (kindAt s i) (ok i h .0))
 
     -- a term that is a name has kind 0 and the name's number
-    name-bytes : (i a : ℕ) → i < termCount s → term (termsOf s) i ≡ name a → (kindAt s i ≡ 0) × (aAt s i ≡ a)
+    pub name-bytes : (i a : ℕ) → i < termCount s → term (termsOf s) i ≡ name a → (kindAt s i ≡ 0) × (aAt s i ≡ a)
     name-bytes i a h e =
         let t : termAt s i ≡ name a = sym (term-at i h) ∙ e in
-        (sym (ok i h .0 .1) ∙ ap kindByte t, sym (ok i h .0 .2) ∙ ap aByte t)
+        let k : kindAt s i ≡ 0 = sym (kind-number (kindAt s i) (aAt s i) (bAt s i) (described-kind i _ _ _ (ok i h .0))) ∙ ap kindNumber t in
+        (k, omega (arith, ap nameAbove (sym (term-kind s i 0 k) ∙ t)))
 
     pub terms-apart : NamesApart (termsOf s)
     terms-apart i j a hi hj ei ej =
@@ -148,31 +124,23 @@ module _ (s : List ℕ) where
     -- the names are 0 to 15, and the roles 0 to 7
     pub names-few : highest nameAbove (termsOf s) ≤ 16
     unfolding termsOf
-    names-few = highest-most nameAbove (termAt s) (termCount s) 16 (λ i l. go i (termAt s i) (ok i l .0 .0))
+    names-few =
+        highest-most nameAbove (termAt s) (termCount s) 16 (λ i l.
+        by-kind (λ k t. Described i k (aAt s i) (bAt s i) → nameAbove t ≤ 16) (aAt s i) (bAt s i)
+        (λ d. d .0) none none none none none none none (λ k _. none) (kindAt s i) (ok i l .0))
       where
-        go : (i : ℕ) (t : Term) → InRange i t → nameAbove t ≤ 16
-        go i (name a) h = omega (arith, h)
-        go i (not c) h = omega arith
-        go i (and c d) h = omega arith
-        go i (or c d) h = omega arith
-        go i (some r c) h = omega arith
-        go i (all r c) h = omega arith
-        go i top h = omega arith
-        go i bottom h = omega arith
+        none : {A : Type 0} → A → 0 ≤ 16
+        none _ = omega arith
 
     pub roles-few : highest roleAbove (termsOf s) ≤ 8
     unfolding termsOf
-    roles-few = highest-most roleAbove (termAt s) (termCount s) 8 (λ i l. go i (termAt s i) (ok i l .0 .0))
+    roles-few =
+        highest-most roleAbove (termAt s) (termCount s) 8 (λ i l.
+        by-kind (λ k t. Described i k (aAt s i) (bAt s i) → roleAbove t ≤ 8) (aAt s i) (bAt s i)
+        none none none none (λ d. d .0) (λ d. d .0) none none (λ k _. none) (kindAt s i) (ok i l .0))
       where
-        go : (i : ℕ) (t : Term) → InRange i t → roleAbove t ≤ 8
-        go i (name a) h = omega arith
-        go i (not c) h = omega arith
-        go i (and c d) h = omega arith
-        go i (or c d) h = omega arith
-        go i (some r c) h = omega (arith, h .0)
-        go i (all r c) h = omega (arith, h .0)
-        go i top h = omega arith
-        go i bottom h = omega arith
+        none : {A : Type 0} → A → 0 ≤ 8
+        none _ = omega arith
 
 -- ---- by the kind of a quantified term
 
@@ -195,18 +163,18 @@ quantified-term s i h l g =
 pub other-term : (s : List ℕ) (i : ℕ) → i < termCount s → (kindAt s i < 4) ⊎ (5 < kindAt s i) → (q : Quantifier) (r x : ℕ)
     → ¬ (term (termsOf s) i ≡ quantified q r x)
 other-term s i h n q r x e =
-    by-kind (λ k t. (k < 4) ⊎ (5 < k) → t ≡ quantified q r x → ⊥) (aAt s i) (bAt s i) (λ _ f. small 0 (ap kindByte f) (omega arith))
-    (λ _ f. small 1 (ap kindByte f) (omega arith)) (λ _ f. small 2 (ap kindByte f) (omega arith)) (λ _ f. small 3 (ap kindByte f) (omega arith))
+    by-kind (λ k t. (k < 4) ⊎ (5 < k) → t ≡ quantified q r x → ⊥) (aAt s i) (bAt s i) (λ _ f. small 0 (ap kindNumber f) (omega arith))
+    (λ _ f. small 1 (ap kindNumber f) (omega arith)) (λ _ f. small 2 (ap kindNumber f) (omega arith)) (λ _ f. small 3 (ap kindNumber f) (omega arith))
     (λ m _. ⊎-elim (λ l. omega arith) (λ l. omega arith) m) (λ m _. ⊎-elim (λ l. omega arith) (λ l. omega arith) m)
-    (λ _ f. large 6 (ap kindByte f) (omega arith)) (λ _ f. large 7 (ap kindByte f) (omega arith)) (λ k _ _ f. large 7 (ap kindByte f) (omega arith))
+    (λ _ f. large 6 (ap kindNumber f) (omega arith)) (λ _ f. large 7 (ap kindNumber f) (omega arith)) (λ k _ _ f. large 7 (ap kindNumber f) (omega arith))
     (kindAt s i) n (sym (term-at s i h) ∙ e)
   where
-    kinds : (q : Quantifier) → (4 ≤ kindByte (quantified q r x)) × (kindByte (quantified q r x) ≤ 5)
+    kinds : (q : Quantifier) → (4 ≤ kindNumber (quantified q r x)) × (kindNumber (quantified q r x) ≤ 5)
     kinds existential = (omega arith, omega arith)
     kinds universal = (omega arith, omega arith)
 
-    small : (k : ℕ) → k ≡ kindByte (quantified q r x) → k < 4 → ⊥
+    small : (k : ℕ) → k ≡ kindNumber (quantified q r x) → k < 4 → ⊥
     small k f l = omega (arith, kinds q .0)
 
-    large : (k : ℕ) → k ≡ kindByte (quantified q r x) → 5 < k → ⊥
+    large : (k : ℕ) → k ≡ kindNumber (quantified q r x) → 5 < k → ⊥
     large k f l = omega (arith, kinds q .1)

@@ -1,4 +1,1 @@
 pub mod Terms
-pub mod Rules
-pub mod Claims
-pub mod Books

@@ -19,81 +19,23 @@ termOf kind a b = getD (name a ∷ not a ∷ and a b ∷ or a b ∷ some a b ∷
 abbrev pub quantifierOf : ℕ → Quantifier
 quantifierOf kind = getD (existential ∷ existential ∷ existential ∷ existential ∷ existential ∷ []) kind universal
 
--- ---- a term's bytes, as the table has them
-
-abbrev pub kindByte : Term → ℕ
-kindByte (name a) = 0
-kindByte (not c) = 1
-kindByte (and c d) = 2
-kindByte (or c d) = 3
-kindByte (some r c) = 4
-kindByte (all r c) = 5
-kindByte top = 6
-kindByte bottom = 7
-
-abbrev pub aByte : Term → ℕ
-aByte (name a) = a
-aByte (not c) = c
-aByte (and c d) = c
-aByte (or c d) = c
-aByte (some r c) = r
-aByte (all r c) = r
-aByte top = 0
-aByte bottom = 0
-
-abbrev pub bByte : Term → ℕ
-bByte (name a) = 0
-bByte (not c) = 0
-bByte (and c d) = d
-bByte (or c d) = d
-bByte (some r c) = c
-bByte (all r c) = c
-bByte top = 0
-bByte bottom = 0
-
 -- ---- as described
 
--- "name number 0–15", "role 0–7", and "A child is a term number below the term's own", which is i
-abbrev pub InRange : ℕ → Term → Type 0
-InRange i (name a) = a < 16
-InRange i (not c) = c < i
-InRange i (and c d) = (c < i) × (d < i)
-InRange i (or c d) = (c < i) × (d < i)
-InRange i (some r c) = (r < 8) × (c < i)
-InRange i (all r c) = (r < 8) × (c < i)
-InRange i top = Unit {0}
-InRange i bottom = Unit {0}
+-- The table by its columns, for the kinds 0 to 7 of term i: what a and b are below. "name number 0–15", "role 0–7", "A child is a term number below
+-- the term's own"; a byte that the table shows as 0 is below 1. There is no kind 8: nothing is below 0.
+abbrev pub aBelow : (i kind : ℕ) → ℕ
+aBelow i kind = getD (16 ∷ i ∷ i ∷ i ∷ 8 ∷ 8 ∷ 1 ∷ 1 ∷ []) kind 0
 
-unfoldable pub inRange? : (i : ℕ) (t : Term) → Dec (InRange i t)
-unfolding dec-and decLt
-inRange? i (name a) = decLt a 16
-inRange? i (not c) = decLt c i
-inRange? i (and c d) = dec-and (decLt c i) (decLt d i)
-inRange? i (or c d) = dec-and (decLt c i) (decLt d i)
-inRange? i (some r c) = dec-and (decLt r 8) (decLt c i)
-inRange? i (all r c) = dec-and (decLt r 8) (decLt c i)
-inRange? i top = yes tt
-inRange? i bottom = yes tt
+abbrev pub bBelow : (i kind : ℕ) → ℕ
+bBelow i kind = getD (1 ∷ 1 ∷ i ∷ i ∷ i ∷ i ∷ 1 ∷ 1 ∷ []) kind 0
 
--- the three bytes are those of a term in range: so the kind is 0 to 7, and the bytes that the table shows as 0 are 0
+-- term i is as described
 abbrev pub Described : (i kind a b : ℕ) → Type 0
-Described i kind a b =
-    InRange i (termOf kind a b)
-    × (kindByte (termOf kind a b) ≡ kind) × (aByte (termOf kind a b) ≡ a) × (bByte (termOf kind a b) ≡ b)
+Described i kind a b = (a < aBelow i kind) × (b < bBelow i kind)
 
 unfoldable pub described? : (i kind a b : ℕ) → Dec (Described i kind a b)
-unfolding inRange? dec-and ℕ-discrete
-described? i kind a b = go (inRange? i t) (ℕ-discrete (kindByte t) kind) (ℕ-discrete (aByte t) a) (ℕ-discrete (bByte t) b)
-  where
-    t : Term
-    t = termOf kind a b
-
-    go : {P Q R S : Type 0} → Dec P → Dec Q → Dec R → Dec S → Dec (P × Q × R × S)
-    go (yes p) (yes q) (yes r) (yes s) = yes (p, q, r, s)
-    go (yes p) (yes q) (yes r) (no n) = no (λ w. n (w .3))
-    go (yes p) (yes q) (no n) d = no (λ w. n (w .2))
-    go (yes p) (no n) d e = no (λ w. n (w .1))
-    go (no n) d e f = no (λ w. n (w .0))
+unfolding dec-and decLt
+described? i kind a b = dec-and (decLt a (aBelow i kind)) (decLt b (bBelow i kind))
 
 -- ---- the section
 

@@ -1,4 +1,5 @@
 pub mod Terms
 pub mod Quantified
 pub mod Interpretations
+pub mod Table
 pub mod Links

@@ -1,5 +1,6 @@
 -- Interpretations of every finite size, and the grade of a term at an element: the table of document 01, "Chain and terms".
 -- Assumes nothing.
+use mathlib.Core.Path.{_≡_}
 use mathlib.Core.List.{List}
 use Prim.Native.Nat.{ℕ, _≤_, _<_}
 use Rattle.chain.specs.Connectives.{Connectives, Lawful, zadeh, existential, universal, over}
@@ -34,6 +35,13 @@ pub record OnChain (N : ℕ) (I : Interpretation) : Type 0 where
   pub names-le : (a e : ℕ) → e < I .size → I .names a e ≤ N
   pub links-le : (r e f : ℕ) → e < I .size → f < I .size → I .links r e f ≤ N
   pub element-lt : (j : ℕ) → I .element j < I .size
+
+-- what M says of A names, R roles and I individuals, K says too
+pub record Agree (A R I : ℕ) (M K : Interpretation) : Type 0 where
+  pub size-same : K .size ≡ M .size
+  pub names-same : (a e : ℕ) → a < A → e < M .size → K .names a e ≡ M .names a e
+  pub links-same : (r e f : ℕ) → r < R → e < M .size → f < M .size → K .links r e f ≡ M .links r e f
+  pub element-same : (j : ℕ) → j < I → K .element j ≡ M .element j
 
 module _ (G : Grading) (I : Interpretation) where
   -- the table, "grade at element e", kind by kind

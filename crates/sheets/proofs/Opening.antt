@@ -12,7 +12,7 @@ use Rattle.encoding.proofs.Stretches.{length-stretch}
 use Rattle.sheets.specs.Layout.{shapeOf, namesAt, linksAt, individualsAt, endAt, nameBytes, linkBytes, individualBytes, HeadRight, SheetLaidOut, EntriesRight}
 use Rattle.sheets.specs.Opening.{sheetQuestions, SheetRight, sheetBy, sheetOpened, sheetNumber}
 use Rattle.sheets.specs.declared.Shape.{Shape}
-use Rattle.sheets.specs.declared.Sheet.the-variants.{Refused, Right}
+use Rattle.sheets.specs.declared.Sheet.the-variants.{Refused, Accepted}
 
 -- ---- the answer, by the checks made so far
 
@@ -32,7 +32,7 @@ module _ (b : List ℕ) (N A R I : ℕ) where
   unfolding sheetOpened
   sheet-15 h l n = ap (sheetBy p) (first-yes _ _ _ h ∙ first-yes _ _ _ l ∙ first-no _ _ _ n)
 
-  pub sheet-none : HeadRight b p N A R I → SheetLaidOut b p → EntriesRight b p N → sheetOpened b N A R I ≡ Right p
+  pub sheet-none : HeadRight b p N A R I → SheetLaidOut b p → EntriesRight b p N → sheetOpened b N A R I ≡ Accepted p
   unfolding sheetOpened
   sheet-none h l e = ap (sheetBy p) (first-yes _ _ _ h ∙ first-yes _ _ _ l ∙ first-yes _ _ _ e ∙ first-empty)
 
@@ -45,11 +45,11 @@ module _ (b : List ℕ) (N A R I : ℕ) where
       let q15 = first-none _ _ _ (q14 .1) in
       record { shape-is = refl; head-right = q13 .0; laid-out = q14 .0; entries-right = q15 .0 }
 
-  pub opened-right : (q : Shape) → sheetOpened b N A R I ≡ Right q → SheetRight b q N A R I
+  pub opened-right : (q : Shape) → sheetOpened b N A R I ≡ Accepted q → SheetRight b q N A R I
   unfolding sheetOpened
   opened-right q = go (firstNo (sheetQuestions b p N A R I)) refl
     where
-      go : (o : Option ℕ) → firstNo (sheetQuestions b p N A R I) ≡ o → sheetBy p o ≡ Right q → SheetRight b q N A R I
+      go : (o : Option ℕ) → firstNo (sheetQuestions b p N A R I) ≡ o → sheetBy p o ≡ Accepted q → SheetRight b q N A R I
       go none e h = let f : p ≡ q = cc in subst (λ (s : Shape). SheetRight b s N A R I) f (none-right e)
       go (some n) e h = let z : _≡_ {A = ℕ} 0 1 = cc in absurd (omega arith)
 

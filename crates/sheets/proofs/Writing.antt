@@ -9,18 +9,18 @@ use lib.ListN.{length, getD, length-append, List·getD-append}
 use lib.Seq.{take-at, drop-at, take-all, getD-append-add}
 use Rattle.chain.specs.Lists.{Each, table, from}
 use Rattle.chain.proofs.Lists.{each-at, each-table, length-table, getD-table, table-same, flatMap-same}
+use Rattle.semantics.specs.Interpretations.{Interpretation, OnChain, Agree}
+use Rattle.semantics.specs.Books.{Book, Valid, nameCount, roleCount, individuals, RuleModel, MeetsClaims}
 use Rattle.encoding.specs.Words.{wordAt}
 use Rattle.encoding.specs.Stretches.{stretch}
-use Rattle.semantics.specs.Interpretations.{Interpretation, OnChain}
-use Rattle.semantics.specs.Books.{Book, Valid, nameCount, roleCount, individuals, RuleModel, MeetsClaims}
-use Rattle.working.specs.Working.{verdictOf}
-use Rattle.working.specs.declared.Verdict.the-variants.{Meets}
-use Rattle.working.proofs.Agreement.{Agree, agree-meets}
 use Rattle.sheets.specs.Layout.{shapeOf, namesAt, linksAt, individualsAt, endAt, nameBytes, linkBytes, individualBytes}
 use Rattle.sheets.specs.Reading.{sheetOf}
 use Rattle.sheets.specs.Opening.{SheetRight}
 use Rattle.sheets.specs.Writing.{shapeFor, headBytes, nameBody, linkBody, individualBody, sheetBytes}
+use Rattle.working.specs.Working.{verdictOf}
 use Rattle.sheets.specs.declared.Shape.{Shape}
+use Rattle.working.specs.declared.Verdict.the-variants.{Meets}
+use Rattle.working.proofs.Agreement.{agree-meets}
 
 -- ---- blocks of one width, one after another
 

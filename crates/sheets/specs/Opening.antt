@@ -8,7 +8,7 @@ use Rattle.chain.specs.Questions.{Question, ask, firstNo}
 use Rattle.sheets.specs.Layout.{shapeOf, HeadRight, headRight?, SheetLaidOut, sheetLaidOut?, EntriesRight, entriesRight?}
 use Rattle.sheets.specs.declared.Shape.{Shape}
 use Rattle.sheets.specs.declared.Sheet.{Sheet}
-use Rattle.sheets.specs.declared.Sheet.the-variants.{Refused, Right}
+use Rattle.sheets.specs.declared.Sheet.the-variants.{Refused, Accepted}
 
 -- of the sheet that stands in b by the shape p, for a book on N steps that has A names, R roles and I individuals
 abbrev pub sheetQuestions : List ℕ → Shape → (N A R I : ℕ) → List Question
@@ -23,7 +23,7 @@ pub record SheetRight (b : List ℕ) (p : Shape) (N A R I : ℕ) : Type 0 where
 
 -- the answer, by the first no
 abbrev pub sheetBy : Shape → Option ℕ → Sheet
-sheetBy p none = Right p
+sheetBy p none = Accepted p
 sheetBy p (some n) = Refused n
 
 unfoldable pub sheetOpened : List ℕ → (N A R I : ℕ) → Sheet
@@ -32,4 +32,4 @@ sheetOpened b N A R I = sheetBy (shapeOf b) (firstNo (sheetQuestions b (shapeOf 
 -- the document's number for each answer
 abbrev pub sheetNumber : Sheet → Option ℕ
 sheetNumber (Refused n) = some n
-sheetNumber (Right p) = none
+sheetNumber (Accepted p) = none

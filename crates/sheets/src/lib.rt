@@ -19,7 +19,7 @@ pub struct Shape {
 // The number of the first check that says no, or the sheet's shape.
 pub enum Sheet {
     Refused(u8),
-    Right(Shape),
+    Accepted(Shape),
 }
 
 // ---- the head (check 13)
@@ -166,5 +166,5 @@ pub fn open_sheet(b: &[u8], steps: u8, names: usize, roles: usize, individuals: 
     if !entries_right(b, p, steps) {
         return Sheet::Refused(15);
     }
-    Sheet::Right(p)
+    Sheet::Accepted(p)
 }

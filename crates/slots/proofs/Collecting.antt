@@ -21,7 +21,7 @@ use Rattle.types.proofs.Candidates.{home-quantifying}
 use Rattle.sections.specs.Terms.{quantifierOf, kindAt, aAt, bAt, termCount, termsOf}
 use Rattle.sections.proofs.Terms.{length-terms, quantified-term, other-term}
 use Rattle.slots.specs.Slots.{slotCount, slotKind, slotRole, slotChild, slotTerm, SlotsOf}
-use Rattle.slots.specs.Collecting.{IsSlot, SlotsCollected, written}
+use Rattle.slots.specs.Collecting.{IsSlot, SlotsCollected, withSlot}
 
 -- at most 16384 candidates come of at most 14 places
 pub places-few : (G : Grading) → 1 ≤ G .steps → candidates G ≤ 16384 → places (G .terms) ≤ 14
@@ -52,26 +52,26 @@ module _ (s : List ℕ) (m k r x i : ℕ) where
   abbrev p3 : List ℕ
   p3 = set p2 (4 * m + 2) x
 
-  written-before : (j : ℕ) → j < 4 * m → getD (written s m k r x i) j 0 ≡ getD s j 0
+  written-before : (j : ℕ) → j < 4 * m → getD (withSlot s m k r x i) j 0 ≡ getD s j 0
   written-before j h =
       getD-set-other p3 (4 * m + 3) j i 0 (omega arith) ∙ getD-set-other p2 (4 * m + 2) j x 0 (omega arith)
       ∙ getD-set-other p1 (4 * m + 1) j r 0 (omega arith) ∙ getD-set-other s (4 * m) j k 0 (omega arith)
 
   module _ (l : 4 * m + 4 ≤ length s) where
-    written-kind : slotKind (written s m k r x i) m ≡ k
+    written-kind : slotKind (withSlot s m k r x i) m ≡ k
     written-kind =
         getD-set-other p3 (4 * m + 3) (4 * m) i 0 (omega arith) ∙ getD-set-other p2 (4 * m + 2) (4 * m) x 0 (omega arith)
         ∙ getD-set-other p1 (4 * m + 1) (4 * m) r 0 (omega arith) ∙ getD-set-same s (4 * m) k 0 (omega arith)
 
-    written-role : slotRole (written s m k r x i) m ≡ r
+    written-role : slotRole (withSlot s m k r x i) m ≡ r
     written-role =
         getD-set-other p3 (4 * m + 3) (4 * m + 1) i 0 (omega arith) ∙ getD-set-other p2 (4 * m + 2) (4 * m + 1) x 0 (omega arith)
         ∙ getD-set-same p1 (4 * m + 1) r 0 (simp length-set (omega arith))
 
-    written-child : slotChild (written s m k r x i) m ≡ x
+    written-child : slotChild (withSlot s m k r x i) m ≡ x
     written-child = getD-set-other p3 (4 * m + 3) (4 * m + 2) i 0 (omega arith) ∙ getD-set-same p2 (4 * m + 2) x 0 (simp length-set (omega arith))
 
-    written-term : slotTerm (written s m k r x i) m ≡ i
+    written-term : slotTerm (withSlot s m k r x i) m ≡ i
     written-term = getD-set-same p3 (4 * m + 3) i 0 (simp length-set (omega arith))
 
 same4 : (P : ℕ → ℕ → ℕ → ℕ → Type 0) (a b c d e f g h : ℕ) → a ≡ e → b ≡ f → c ≡ g → d ≡ h → P a b c d → P e f g h
@@ -110,7 +110,7 @@ module _ (s slots : List ℕ) (i m : ℕ) (h : i < termCount s) (C : SlotsCollec
     unfolding places
     slots-room = let l : i + 1 ≤ length ts = rw (length-terms s) (omega arith) in omega (arith, C .few, one-more, rank-mono (opens? ts) (i + 1) (length ts) l)
 
-    pub slots-more : (result : List ℕ) → result ≡ written slots m (kindAt s i) (aAt s i) (bAt s i) i → 4 * m + 4 ≤ length slots
+    pub slots-more : (result : List ℕ) → result ≡ withSlot slots m (kindAt s i) (aAt s i) (bAt s i) i → 4 * m + 4 ≤ length slots
         → SlotsCollected ts result (i + 1) (m + 1)
     slots-more result z l = subst (λ (y : List ℕ). SlotsCollected ts y (i + 1) (m + 1)) (sym z) (record {
       few = omega (arith, C .few, one-more);
@@ -134,7 +134,7 @@ module _ (s slots : List ℕ) (i m : ℕ) (h : i < termCount s) (C : SlotsCollec
         b = bAt s i
 
         after : List ℕ
-        after = written slots m k a b i
+        after = withSlot slots m k a b i
 
         before : (j : ℕ) → j < 4 * m → getD after j 0 ≡ getD slots j 0
         before = written-before slots m k a b i

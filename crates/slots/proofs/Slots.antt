@@ -3,18 +3,20 @@
 use mathlib.Core.Path.{_≡_, sym, ap, subst, _∙_}
 use mathlib.Core.Logic.{_↔_}
 use mathlib.Core.List.{List}
-use Prim.Native.Nat.{ℕ, _<_}
+use Prim.Native.Nat.{ℕ, _≤_, _<_}
 use native.Mathlib.Omega.{arith}
 use lib.ListN.{length}
 use Rattle.chain.specs.Connectives.{Quantifier, existential, universal, Permits}
-use Rattle.semantics.specs.Terms.{Term, term, Ordered}
+use Rattle.chain.proofs.Lists.{each-at, each-highest}
+use Rattle.semantics.specs.Terms.{Term, bottom, term, Ordered}
 use Rattle.semantics.specs.Quantified.{quantified}
 use Rattle.semantics.specs.Interpretations.{Grading}
 use Rattle.semantics.specs.Links.{Governs, Allows}
 use Rattle.semantics.proofs.Terms.{child-lt}
 use Rattle.semantics.proofs.Quantified.{quantified-alike}
-use Rattle.sections.specs.Terms.{InRange, termAt, termCount, termsOf, TermsRight}
-use Rattle.sections.proofs.Terms.{length-terms, term-at}
+use Rattle.semantics.specs.Books.{roleAbove}
+use Rattle.sections.specs.Terms.{termsOf, TermsRight}
+use Rattle.sections.proofs.Terms.{roles-few}
 use Rattle.slots.specs.Slots.{slotCount, slotRole, slotChild, slotTerm, slotQuantifier, SlotsOf, SlotAllows}
 
 pub slot-child : (ts : List Term) → Ordered ts → (slots : List ℕ) → SlotsOf ts slots → (q : ℕ) → q < slotCount slots → slotChild slots q < length ts
@@ -25,13 +27,14 @@ slot-child ts o slots S q h =
 -- and its role is below 8
 pub slot-role : (ts : List ℕ) → TermsRight ts → (slots : List ℕ) → SlotsOf (termsOf ts) slots → (q : ℕ) → q < slotCount slots → slotRole slots q < 8
 slot-role ts ok slots S q h =
-    let l : slotTerm slots q < termCount ts = omega (arith, S .terms q h, length-terms ts) in
-    go (slotQuantifier slots q) (sym (term-at ts (slotTerm slots q) l) ∙ S .are q h) (ok (slotTerm slots q) l .0 .0)
+    go (slotQuantifier slots q)
+    (each-at (λ t. roleAbove t ≤ 8) (termsOf ts) bottom .0 (each-highest roleAbove (termsOf ts) 8 (roles-few ts ok)) (slotTerm slots q) (S .terms q h))
+    (S .are q h)
   where
-    go : (k : Quantifier) → termAt ts (slotTerm slots q) ≡ quantified k (slotRole slots q) (slotChild slots q)
-        → InRange (slotTerm slots q) (termAt ts (slotTerm slots q)) → slotRole slots q < 8
-    go existential e w = subst (InRange (slotTerm slots q)) e w .0
-    go universal e w = subst (InRange (slotTerm slots q)) e w .0
+    go : (k : Quantifier) → roleAbove (term (termsOf ts) (slotTerm slots q)) ≤ 8
+        → term (termsOf ts) (slotTerm slots q) ≡ quantified k (slotRole slots q) (slotChild slots q) → slotRole slots q < 8
+    go existential w e = subst (λ (t : Term). roleAbove t ≤ 8) e w
+    go universal w e = subst (λ (t : Term). roleAbove t ≤ 8) e w
 
 module _ (G : Grading) (s : List ℕ) (S : SlotsOf (G .terms) s) (r : ℕ) (own child : ℕ → ℕ) (g : ℕ) where
   pub slots-allow : ((j : ℕ) → j < slotCount s → SlotAllows G s r g j (child (slotChild s j)) (own (slotTerm s j))) ↔ Allows G r own child g

@@ -23,5 +23,5 @@ pub record SlotsCollected (ts : List Term) (slots : List ℕ) (b m : ℕ) : Type
   pub onto : (i : ℕ) → i < b → (k : Quantifier) (r x : ℕ) → term ts i ≡ quantified k r x → (q : ℕ) × (q < m) × (slotTerm slots q ≡ i)
 
 -- the slots with slot m written
-abbrev pub written : (slots : List ℕ) (m kind role child term : ℕ) → List ℕ
-written s m k r x i = set (set (set (set s (4 * m) k) (4 * m + 1) r) (4 * m + 2) x) (4 * m + 3) i
+abbrev pub withSlot : (slots : List ℕ) (m kind role child term : ℕ) → List ℕ
+withSlot s m k r x i = set (set (set (set s (4 * m) k) (4 * m + 1) r) (4 * m + 2) x) (4 * m + 3) i

@@ -1,18 +1,18 @@
 // The quantified terms of a book, collected once, for eliminating and for placing; and the grades that links are judged by, as a row.
 ghost use mathlib.Core.Path.{_≡_};
-ghost use Prim.Native.Nat.{ℕ, _+_, _*_, _<_, _≤_};
+ghost use Prim.Native.Nat.{_+_, _*_, _<_, _≤_};
 ghost use lib.ListN.{length, getD, take};
 ghost use Rattle.types.specs.Candidates.{places};
 ghost use Rattle.sections.specs.Terms.{termCount, termsOf};
 ghost use Rattle.slots.specs.Slots.{slotCount, SlotsOf};
 ghost use Rattle.slots.specs.Rows.{TermsBelow, SlotRow};
-ghost use Rattle.slots.specs.Collecting.{SlotsCollected, written};
+ghost use Rattle.slots.specs.Collecting.{SlotsCollected, withSlot};
 
 // ---- the slots
 
 fn write_slot(slots: &mut [u8], m: usize, kind: u8, role: u8, child: u8, term: u8)
     requires { ⌜ (m < 16) × (64 ≤ length (now slots)) ⌝ }
-    ensures { λ _. ⌜ now (slots .exit) ≡ written (now (slots .entry)) m kind role child term ⌝ }
+    ensures { λ _. ⌜ now (slots .exit) ≡ withSlot (now (slots .entry)) m kind role child term ⌝ }
 {
     slots[4 * m] = kind;
     slots[4 * m + 1] = role;

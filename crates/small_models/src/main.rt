@@ -8,8 +8,8 @@ mod shape;
 mod types;
 mod worlds;
 
-use decider::Decision;
 use libc::STDIN_FILENO;
+use outcomes::Decision;
 use reports::tally;
 use reports::tally::Tally;
 use reports::tally::say;

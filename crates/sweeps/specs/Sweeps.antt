@@ -45,13 +45,13 @@ abbrev pub Closed : Classes → List ℕ → Type 0
 Closed K xs = (c : ℕ) → Mem c xs → (q : ℕ) → q < slotCount (K .rows .slots) → (d : ℕ) × Mem d xs × WitnessIn K c q d
 
 -- each candidate in xs is marked
-abbrev pub Holds : (marks xs : List ℕ) → Type 0
-Holds marks xs = (c : ℕ) → Mem c xs → Marked marks c
+abbrev pub AllMarked : (marks xs : List ℕ) → Type 0
+AllMarked marks xs = (c : ℕ) → Mem c xs → Marked marks c
 
 -- marks were taken away, and none of a closed set
 pub record Reduced (K : Classes) (marks after : List ℕ) : Type 0 where
   pub part : (c : ℕ) → Marked after c → Marked marks c
-  pub keeps : (xs : List ℕ) → Closed K xs → Holds marks xs → Holds after xs
+  pub keeps : (xs : List ℕ) → Closed K xs → AllMarked marks xs → AllMarked after xs
 
 -- ---- the steps of a sweep
 

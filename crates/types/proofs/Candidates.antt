@@ -10,11 +10,12 @@ use Rattle.chain.specs.Search.{First, rank}
 use Rattle.chain.specs.Digits.{digit}
 use Rattle.chain.proofs.Search.{strong, rank-yes, rank-no, rank-lt, rank-onto, rank-same, select-rank, select-lt}
 use Rattle.chain.proofs.Digits.{digit-lt, encode-lt, digit-encode, digits-inj}
-use Rattle.semantics.specs.Terms.{Term, name, not, and, or, some, all, top, bottom, term, Children, NamesApart, local}
+use Rattle.semantics.specs.Terms.{Term, name, not, and, or, some, all, top, bottom, term, Children, local, NamesApart}
 use Rattle.semantics.specs.Interpretations.{Grading, WellFormed, Interpretation, OnChain, gradeAt}
+use Rattle.semantics.specs.Table.{Follows}
+use Rattle.types.specs.Candidates.{Place, named, quantifying, place, named?, bearer, OpensAs, Opens, opens?, places, homeAs, home, placeNumber, base, candidates, inCandidate, gradeIn, HasType, placeGrade, typeOf, IsPlace, isPlace?, placesBefore}
 use Rattle.semantics.proofs.Terms.{value-local, value-unique}
 use Rattle.semantics.proofs.Interpretations.{gradeAt-local, gradeAt-le}
-use Rattle.types.specs.Candidates.{Place, named, quantifying, place, named?, bearer, OpensAs, Opens, opens?, places, homeAs, home, slot, base, candidates, inCandidate, gradeIn, HasType, placeGrade, typeOf, IsPlace, isPlace?, placesBefore}
 
 module _ (ts : List Term) where
   -- a name has a home, which is a term with that name; a quantified term is its own
@@ -108,22 +109,22 @@ module _ (G : Grading) (w : WellFormed G) where
       digit-le s = omega (arith, digit-lt (base G) (omega arith) s c)
 
       go : (i : ℕ) (t : Term) → Children i t → ((j : ℕ) → j < i → gradeIn G c j ≤ G .steps) → local (inCandidate G c) i t (gradeIn G c) ≤ G .steps
-      go i (name a) h ih = digit-le (slot (G .terms) i)
+      go i (name a) h ih = digit-le (placeNumber (G .terms) i)
       go i (not x) h ih = w .lawful .negation-le _ (ih x h)
       go i (and x y) h ih = w .lawful .conjunction-le _ _ (ih x (h .0)) (ih y (h .1))
       go i (or x y) h ih = w .lawful .disjunction-le _ _ (ih x (h .0)) (ih y (h .1))
-      go i (some r x) h ih = digit-le (slot (G .terms) i)
-      go i (all r x) h ih = digit-le (slot (G .terms) i)
+      go i (some r x) h ih = digit-le (placeNumber (G .terms) i)
+      go i (all r x) h ih = digit-le (placeNumber (G .terms) i)
       go i top h ih = omega arith
       go i bottom h ih = omega arith
 
   -- the grade of a term that opens a place is the place's digit
   pub gradeIn-opens : (c i : ℕ) → i < length (G .terms) → Opens (G .terms) i → gradeIn G c i ≡ digit (base G) (rank (opens? (G .terms)) i) c
-  unfolding slot
+  unfolding placeNumber
   gradeIn-opens c i l o =
       go (term (G .terms) i) refl o ∙ ap (λ (h : ℕ). digit (base G) (rank (opens? (G .terms)) h) c) (home-opens (G .terms) i l o)
     where
-      go : (t : Term) → term (G .terms) i ≡ t → OpensAs (G .terms) i (place t) → gradeIn G c i ≡ digit (base G) (slot (G .terms) i) c
+      go : (t : Term) → term (G .terms) i ≡ t → OpensAs (G .terms) i (place t) → gradeIn G c i ≡ digit (base G) (placeNumber (G .terms) i) c
       go (name a) e o = gradeIn-local c i l (name a) e
       go (not x) e o = absurd o
       go (and x y) e o = absurd o
@@ -146,7 +147,7 @@ module _ (G : Grading) (w : WellFormed G) where
   -- the grade of a name is that of its first bearer
   pub gradeIn-name : (c i a : ℕ) → i < length (G .terms) → term (G .terms) i ≡ name a
       → gradeIn G c i ≡ ⊎-elim (λ u. gradeIn G c (u .0)) (λ _. 0) (bearer (G .terms) a)
-  unfolding slot home homeAs
+  unfolding placeNumber home homeAs
   gradeIn-name c i a l e = go (bearer (G .terms) a) (ap (λ (t : Term). homeAs (G .terms) i (place t)) e)
     where
       go : (v : First (named? (G .terms) a) (length (G .terms))) → home (G .terms) i ≡ ⊎-elim (λ u. u .0) (λ _. i) v
@@ -183,7 +184,7 @@ module _ (G : Grading) (w : WellFormed G) (I : Interpretation) (p : OnChain (G .
       ∙ ap (λ (j : ℕ). gradeAt G I j e) (select-rank (opens? (G .terms)) (length (G .terms)) i l o)
 
   pub typeOf-has : HasType G I e (typeOf G I e)
-  unfolding gradeIn slot
+  unfolding gradeIn placeNumber
   typeOf-has =
       value-unique (inCandidate G (typeOf G I e)) (G .terms) (w .ordered) (λ i. gradeAt G I i e) (λ i l. go i l (term (G .terms) i) refl)
     where
@@ -210,3 +211,13 @@ module _ (G : Grading) (w : WellFormed G) (I : Interpretation) (p : OnChain (G .
   -- and it is the only one
   pub typeOf-only : (c : ℕ) → c < candidates G → HasType G I e c → c ≡ typeOf G I e
   typeOf-only c l t = gradeIn-inj G w c (typeOf G I e) l typeOf-lt (λ i g. sym (t i g) ∙ typeOf-has i g)
+
+-- "The other terms' grades follow", by the table's connectives
+pub gradeIn-follows : (G : Grading) → WellFormed G → (n : ℕ) → Follows G n (λ i c. gradeIn G c i)
+gradeIn-follows G w n = record {
+  not-row = λ i x (l, t) c h. gradeIn-local G w c i l (not x) t;
+  and-row = λ i x y (l, t) c h. gradeIn-local G w c i l (and x y) t;
+  or-row = λ i x y (l, t) c h. gradeIn-local G w c i l (or x y) t;
+  top-row = λ i (l, t) c h. gradeIn-local G w c i l top t;
+  bottom-row = λ i (l, t) c h. gradeIn-local G w c i l bottom t;
+}

@@ -89,8 +89,8 @@ module _ (ts : List Term) where
   home i = homeAs i (place (term ts i))
 
   -- the number of term i's place, "in term order, i from 0"
-  unfoldable pub slot : ℕ → ℕ
-  slot i = rank opens? (home i)
+  unfoldable pub placeNumber : ℕ → ℕ
+  placeNumber i = rank opens? (home i)
 
 -- ---- candidates
 
@@ -105,12 +105,12 @@ module _ (G : Grading) where
   -- "the grade of the i-th place .. is digit i in base N+1, lowest first", and the other terms' grades follow as in the table
   abbrev pub inCandidate : ℕ → Carrier ℕ
   inCandidate c = record {
-    at-name = λ i a. digit base (slot (G .terms) i) c;
+    at-name = λ i a. digit base (placeNumber (G .terms) i) c;
     at-not = G .connectives .negation;
     at-and = G .connectives .conjunction;
     at-or = G .connectives .disjunction;
-    at-some = λ i r x. digit base (slot (G .terms) i) c;
-    at-all = λ i r x. digit base (slot (G .terms) i) c;
+    at-some = λ i r x. digit base (placeNumber (G .terms) i) c;
+    at-all = λ i r x. digit base (placeNumber (G .terms) i) c;
     at-top = G .steps;
     at-bottom = 0;
   }

@@ -11,8 +11,8 @@ use Rattle.chain.specs.Lists.{highest}
 use Rattle.chain.proofs.Lists.{highest-at}
 use Rattle.semantics.specs.Interpretations.{Grading, Interpretation, gradeAt}
 use Rattle.semantics.specs.Books.{Book, Valid, membershipIndividuals, linkIndividuals, linkRoles}
-use Rattle.sections.specs.Rules.{rulesOf, RulesRight}
-use Rattle.sections.specs.Claims.{claimCount, membershipAt, membershipsOf, MembershipsRight, linkAt, linksOf}
+use Rattle.claims.specs.Rules.{rulesOf, RulesRight}
+use Rattle.claims.specs.Claims.{claimCount, membershipAt, membershipsOf, MembershipsRight, linkAt, linksOf}
 use Rattle.working.specs.Working.{linkVerdict, linksVerdict, verdictBy, verdictOf}
 use Rattle.working.proofs.Working.{verdict-same}
 use Rattle.sheets.specs.Reading.{interpretation}

@@ -7,8 +7,8 @@ use native.Mathlib.Decide.{decLe}
 use native.Mathlib.Omega.{arith}
 use Rattle.semantics.specs.Interpretations.{Interpretation}
 use Rattle.semantics.specs.Books.{Rule, Claimed, claimed?, MembershipClaim, LinkClaim}
-use Rattle.sections.specs.Rules.{ruleCount, ruleAt, rulesOf}
-use Rattle.sections.specs.Claims.{claimCount, membershipAt, membershipsOf, linkAt, linksOf}
+use Rattle.claims.specs.Rules.{ruleCount, ruleAt, rulesOf}
+use Rattle.claims.specs.Claims.{claimCount, membershipAt, membershipsOf, linkAt, linksOf}
 use Rattle.working.specs.Working.{judge, firstBroken, ruleVerdictAt, ruleVerdict, membershipVerdict, linkVerdict, rulesVerdict, membershipsVerdict, linksVerdict}
 use Rattle.working.specs.declared.Verdict.{Verdict}
 use Rattle.working.specs.declared.Verdict.the-variants.{Meets, BreaksRule, BreaksMembership, BreaksLink}

@@ -5,8 +5,8 @@ use Prim.Native.Nat.{ℕ, _*_, _≤_, _<_}
 use lib.ListN.{length}
 use Rattle.semantics.specs.Interpretations.{Interpretation}
 use Rattle.semantics.specs.Books.{MembershipClaim, LinkClaim, membershipIndividuals, linkIndividuals, linkRoles}
-use Rattle.sections.specs.Rules.{rulesOf, RulesRight}
-use Rattle.sections.specs.Claims.{claimCount, membershipAt, membershipsOf, linkAt, linksOf}
+use Rattle.claims.specs.Rules.{rulesOf, RulesRight}
+use Rattle.claims.specs.Claims.{claimCount, membershipAt, membershipsOf, linkAt, linksOf}
 use Rattle.working.specs.Working.{verdictBy}
 use Rattle.working.specs.declared.Verdict.{Verdict}
 use Rattle.sheets.specs.Reading.{interpretation}

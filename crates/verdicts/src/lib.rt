@@ -3,15 +3,15 @@ ghost use mathlib.Core.Path.{_≡_};
 ghost use Prim.Native.Nat.{_+_, _*_, _<_, _≤_};
 ghost use lib.ListN.{length};
 ghost use Rattle.chain.specs.Decisions.{Tells};
-ghost use Rattle.sections.specs.Rules.{ruleCount, ruleAt, rulesOf, RuleRight, RulesRight};
-ghost use Rattle.sections.specs.Claims.{claimCount, membershipAt, membershipsOf, linkAt, linksOf};
+ghost use Rattle.claims.specs.Rules.{ruleCount, ruleAt, rulesOf, RuleRight, RulesRight};
+ghost use Rattle.claims.specs.Claims.{claimCount, membershipAt, membershipsOf, linkAt, linksOf};
 ghost use Rattle.working.specs.Working.{orElse, ruleVerdict, membershipVerdict, linkVerdict, rulesVerdict, membershipsVerdict, linksVerdict};
 ghost use Rattle.working.specs.declared.Verdict.the-variants.{Meets};
 ghost use Rattle.grids.specs.Columns.{cellAt, columnCount};
 ghost use Rattle.verdicts.specs.Cells.{sheet, elementIn, linkIn, verdictIn, Seated, MembershipCovered, LinkCovered, MembershipsCovered, LinksCovered, Covered};
+use claims::claimed;
 use encoding::wide;
 use grids::cell;
-use sections::claimed;
 use working::Verdict;
 
 // ---- what stands on the sheet

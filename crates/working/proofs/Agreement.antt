@@ -9,19 +9,12 @@ use Rattle.chain.specs.Lists.{highest}
 use Rattle.chain.proofs.Connectives.{over-same}
 use Rattle.chain.proofs.Lists.{each-map₂, each-map₃, each-at, each-highest}
 use Rattle.semantics.specs.Terms.{Term, name, not, and, or, some, all, top, bottom, term, local}
-use Rattle.semantics.specs.Interpretations.{Grading, Interpretation, WellFormed, OnChain, atElements, gradeAt}
+use Rattle.semantics.specs.Interpretations.{Grading, Interpretation, WellFormed, OnChain, Agree, atElements, gradeAt}
 use Rattle.semantics.specs.Books.{Rule, MembershipClaim, LinkClaim, Book, Valid, RuleInRange, TermInRange, nameAbove, roleAbove, linkRoles, membershipIndividuals, linkIndividuals, nameCount, roleCount, individuals, MeetsRule, MeetsMembership, MeetsLink, RuleModel, MeetsClaims}
 use Rattle.semantics.proofs.Interpretations.{gradeAt-local, gradeAt-unique}
 use Rattle.working.specs.Working.{verdictOf}
 use Rattle.working.specs.declared.Verdict.the-variants.{Meets}
 use Rattle.working.proofs.Working.{says-verdict}
-
--- what M says of A names, R roles and I individuals, K says too
-pub record Agree (A R I : ℕ) (M K : Interpretation) : Type 0 where
-  pub size-same : K .size ≡ M .size
-  pub names-same : (a e : ℕ) → a < A → e < M .size → K .names a e ≡ M .names a e
-  pub links-same : (r e f : ℕ) → r < R → e < M .size → f < M .size → K .links r e f ≡ M .links r e f
-  pub element-same : (j : ℕ) → j < I → K .element j ≡ M .element j
 
 -- ---- grades
 

@@ -1,42 +1,46 @@
 -- Laws of writing a sheet: which checks that were made give which answer and sheet; and that the sheet of a model is right and meets the book.
 -- Assumes nothing.
-use mathlib.Core.Path.{_≡_, refl, sym, ap, subst, _∙_}
+use mathlib.Core.Path.{_≡_, refl, sym, ap, ap₂, subst, _∙_}
 use mathlib.Core.Option.{Option, none, some}
-use mathlib.Core.List.{List, [], _++_}
+use mathlib.Core.List.{List, [], _∷_, _++_}
 use Prim.Native.Nat.{ℕ, _≤_}
 use native.Mathlib.Decide.{ℕ-discrete, decLe}
 use native.Mathlib.Omega.{arith}
 use lib.ListN.{length, take, drop}
-use lib.Seq.{take-at}
+use lib.Seq.{take-at, drop-at}
 use Rattle.chain.specs.Lists.{index}
-use Rattle.chain.specs.Questions.{firstNo}
+use Rattle.chain.specs.Questions.{Question, ask, firstNo}
 use Rattle.chain.proofs.Questions.{first-empty, first-yes, first-no, first-none, first-some-append, first-none-append, first-both}
-use Rattle.semantics.specs.Interpretations.{Grading}
+use Rattle.semantics.specs.Interpretations.{Grading, Agree}
 use Rattle.semantics.specs.Books.{Book, Valid, nameCount, roleCount, individuals, RuleModel, MeetsClaims}
 use Rattle.sections.specs.Terms.{termsOf}
 use Rattle.gradings.specs.Gradings.{grading}
 use Rattle.gradings.specs.declared.Logic.{Logic}
-use Rattle.book.specs.Layout.{termBytes}
+use Rattle.layout.specs.Layout.{termBytes}
 use Rattle.book.specs.Reading.{bookOf}
-use Rattle.book.specs.Opening.{bookQuestions, Right}
-use Rattle.book.specs.declared.Sections.{Sections}
-use Rattle.book.proofs.Reading.{right-counts, right-names, right-roles, right-individuals}
+use Rattle.book.specs.Opening.{Accepts, bookQuestions, Right}
 use Rattle.counter.specs.Counting.{candidateQuestions}
-use Rattle.working.specs.Working.{verdictOf}
-use Rattle.working.specs.declared.Verdict.the-variants.{Meets}
+use Rattle.layout.specs.declared.Sections.{Sections}
+use Rattle.book.proofs.Reading.{accepts-valid, right-counts, right-names, right-roles, right-individuals}
 use Rattle.sheets.specs.Layout.{endAt}
 use Rattle.sheets.specs.Writing.{shapeFor, sheetBytes}
 use Rattle.sheets.specs.declared.Shape.{Shape}
 use Rattle.sheets.specs.Opening.{SheetRight}
 use Rattle.sheets.specs.Reading.{sheetOf}
+use Rattle.working.specs.Working.{verdictOf}
+use Rattle.working.specs.declared.Verdict.the-variants.{Meets}
 use Rattle.sheets.proofs.Bounds.{few-end}
-use Rattle.sheets.proofs.Writing.{length-sheet, sheet-right, sheet-meets}
+use Rattle.sheets.proofs.Writing.{length-sheet, sheet-reads, sheet-right, sheet-meets}
 use Rattle.elimination.specs.Listed.{typesIn}
 use Rattle.placement.specs.Outcome.{seat, survivorsOf, placement, outcome, placedTypes}
-use Rattle.placement.proofs.Outcome.{outcome-model, placement-first}
+use Rattle.placement.proofs.Outcome.{outcome-placed, outcome-model, placement-first}
 use Rattle.models.specs.Rows.{modelOf}
-use Rattle.decider.specs.Deciding.{decideQuestions, HoldsPlacement}
+use Rattle.decider.specs.Deciding.{decideQuestions, decisionOf, marksAfter, placementAfter, Decidable, placementIn, interpretationIn}
+use Rattle.outcomes.specs.declared.Decision.the-variants.{Refused as NotDecided, Decided}
+use Rattle.decider.proofs.Deciding.{decision-refused, decision-decided}
+use Rattle.decider.proofs.Listed.{placement-reads, interpretation-is}
 use Rattle.writer.specs.Writing.{seatsOf, modelBytes, modelQuestions, written, writtenIn, writeQuestions, writtenOf, sheetAfter, writtenNumber}
+use Rattle.writer.specs.declared.Written.{Written}
 use Rattle.writer.specs.declared.Written.the-variants.{Refused, Sheet}
 
 -- ---- the first no, after deciding
@@ -134,6 +138,39 @@ module _ (B : Book) where
         let u = found in
         ap (λ (l : List ℕ). verdictOf B (sheetOf l)) (model-bytes (u .0) (u .1)) ∙ sheet-meets B (placedTypes B (u .0)) w (u .2) (u .3)
 
+-- ---- by what deciding answers
+
+module _ (b : List ℕ) (m p t : ℕ) where
+  pub written-undecided : (n : ℕ) → decisionOf b m p ≡ NotDecided n → writtenOf b m p t ≡ Refused n
+  unfolding writtenOf
+  written-undecided n e = ap (written (bookOf b)) (first-some-append (decideQuestions b m p) _ n (decision-refused b m p n e))
+
+  module _ (o k : ℕ) (e : decisionOf b m p ≡ Decided o k) where
+    -- the last three questions, of an outcome, a number of survivors and a length
+    abbrev last : ℕ → ℕ → ℕ → List Question
+    last o k l = ask 17 (ℕ-discrete o 1) ∷ ask 18 (decLe k 64) ∷ ask 19 (decLe l t) ∷ []
+
+    abbrev end : ℕ
+    end = endAt (record { elements = k; names = nameCount (bookOf b); roles = roleCount (bookOf b); individuals = individuals (bookOf b) })
+
+    length-is : length (modelBytes (bookOf b)) ≡ end
+    length-is = rw (decision-decided b m p o k e .2) (model-length (bookOf b))
+
+    pub written-decided : writtenNumber (writtenOf b m p t) ≡ firstNo (last o k end)
+    written-decided =
+        let u = decision-decided b m p o k e in
+        writtenNumber-is b m p t ∙ first-none-append (decideQuestions b m p) (modelQuestions (bookOf b) t) (u .0)
+        ∙ ap (λ (l : ℕ). firstNo (last (outcome (bookOf b)) (length (survivorsOf (bookOf b))) l)) length-is
+        ∙ sym (ap₂ (λ (o k : ℕ). firstNo (last o k end)) (u .1) (u .2))
+
+    pub written-length : (n : ℕ) → writtenOf b m p t ≡ Sheet n → n ≡ end
+    unfolding writtenOf
+    written-length n f = go (firstNo (writeQuestions b m p t)) f ∙ length-is
+      where
+        go : (r : Option ℕ) → written (bookOf b) r ≡ Sheet n → n ≡ length (modelBytes (bookOf b))
+        go none h = cc
+        go (some j) h = let z : _≡_ {A = ℕ} 0 1 = cc in absurd (omega arith)
+
 -- ---- a sheet that was written
 
 module _ (b : List ℕ) (m p : ℕ) (sheet : List ℕ) (n : ℕ) (e : writtenOf b m p (length sheet) ≡ Sheet n) where
@@ -161,6 +198,29 @@ module _ (b : List ℕ) (m p : ℕ) (sheet : List ℕ) (n : ℕ) (e : writtenOf 
       let q17 = first-none 17 (ℕ-discrete (outcome (bookOf b)) 1) _ (q .1) in
       let q18 = first-none 18 (decLe (length (survivorsOf (bookOf b))) 64) _ (q17 .1) in
       (first-both (bookQuestions b) _ (first-both (candidateQuestions b) _ (q .0) .0) .0, q17 .0, q18 .0)
+
+  -- the bytes past it are kept
+  pub written-kept : drop n (sheetAfter b m p sheet) ≡ drop n sheet
+  unfolding sheetAfter
+  written-kept =
+      let u = none-says-no in
+      ap (λ (o : Option ℕ). drop n (writtenIn (bookOf b) o sheet)) (u .0)
+      ∙ drop-at (modelBytes (bookOf b)) (drop (length (modelBytes (bookOf b))) sheet) n (sym (u .1))
+      ∙ ap (λ (k : ℕ). drop k sheet) (sym (u .1))
+
+-- it stands for the interpretation that deciding leaves in marks and placement
+pub written-stands : (b marks buffer sheet : List ℕ) (n : ℕ) → writtenOf b (length marks) (length buffer) (length sheet) ≡ Sheet n
+    → Agree (nameCount (bookOf b)) (roleCount (bookOf b)) (individuals (bookOf b))
+    (interpretationIn b (marksAfter b (length buffer) marks) (placementAfter b (length marks) buffer))
+    (sheetOf (take n (sheetAfter b (length marks) (length buffer) sheet)))
+unfolding Accepts
+written-stands b marks buffer sheet n e =
+    let B = bookOf b in
+    let d = first-both (decideQuestions b (length marks) (length buffer)) (modelQuestions B (length sheet)) (none-says-no b (length marks) (length buffer) sheet n e .0) .0 in
+    let v = written-after b (length marks) (length buffer) sheet n e in
+    let u = found B (accepts-valid b (v .0)) (v .1) in
+    rw (written-is b (length marks) (length buffer) sheet n e, model-bytes B (u .0) (u .1), interpretation-is b marks buffer d (u .0) (u .1))
+    (sheet-reads (B .grading .steps) (nameCount B) (roleCount B) (individuals B) (placedTypes B (u .0)))
 
 -- ---- what code has: a shape's numbers, the listed types, the seats
 
@@ -191,13 +251,18 @@ module _ (b : List ℕ) (s : Sections) (ok : Right b s) where
       (typesIn G (survivorsOf B) (λ j. index (survivorsOf B) (seat seats j)))) z
       ∙ sym (model-bytes B seats f))
 
--- the seats, where the outcome is 1
-pub placement-held : (b seats : List ℕ) (n : ℕ) → n ≡ individuals (bookOf b) → HoldsPlacement b seats → outcome (bookOf b) ≡ 1
-    → placement (bookOf b) ≡ some (take n seats)
-unfolding HoldsPlacement
-placement-held b seats n e h o = h o ∙ ap {B = Option (List ℕ)} (λ (k : ℕ). some (take k seats)) (sym e)
+-- the placement that deciding leaves in its buffer, where the outcome is 1
+pub placement-there : (b marks buffer : List ℕ) → Decidable b (length marks) (length buffer) → outcome (bookOf b) ≡ 1
+    → placement (bookOf b) ≡ some (placementIn (placementAfter b (length marks) buffer) (individuals (bookOf b)))
+placement-there b marks buffer d e =
+    let u = outcome-placed (bookOf b) e in
+    u .1 .1 ∙ ap {B = Option (List ℕ)} some (sym (placement-reads b marks buffer d (u .1 .0) (u .1 .1)))
 
--- a refusal leaves the sheet buffer untouched
+-- what `write_sheet` promises, from its equation
+pub written-answers : (b : List ℕ) (m p t : ℕ) (r : Written) {Q : Type 0} → (r ≡ writtenOf b m p t) × Q
+    → (r ≡ writtenOf b m p t) × ((writtenNumber r ≡ firstNo (writeQuestions b m p t)) × Q)
+written-answers b m p t r w = (w .0, (ap writtenNumber (w .0) ∙ writtenNumber-is b m p t, w .1))
+
 pub sheet-kept : (b : List ℕ) (m p : ℕ) (sheet : List ℕ) (n : ℕ) → writtenOf b m p (length sheet) ≡ Refused n → sheetAfter b m p sheet ≡ sheet
 unfolding sheetAfter
 sheet-kept b m p sheet n e =

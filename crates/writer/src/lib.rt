@@ -2,7 +2,7 @@
 ghost use mathlib.Core.Path.{_≡_};
 ghost use mathlib.Core.Option.{some};
 ghost use mathlib.Core.List.{_++_};
-ghost use Prim.Native.Nat.{_<_, _≤_};
+ghost use Prim.Native.Nat.{_*_, _<_, _≤_};
 ghost use lib.ListN.{length, take, drop};
 ghost use Rattle.chain.specs.Questions.{firstNo};
 ghost use Rattle.semantics.specs.Books.{nameCount, roleCount, individuals as individualsOf};
@@ -13,12 +13,12 @@ ghost use Rattle.counter.specs.declared.Counted.the-variants.{Candidates};
 ghost use Rattle.sheets.specs.Layout.{endAt};
 ghost use Rattle.elimination.specs.Marks.{marked};
 ghost use Rattle.placement.specs.Outcome.{survivorsOf, outcome as outcomeOf, placement as placementOf};
-ghost use Rattle.decider.specs.Deciding.{marksAfter, placementAfter, HoldsPlacement};
-ghost use Rattle.writer.specs.Writing.{modelBytes, modelQuestions, written, writtenIn, writtenOf, sheetAfter};
+ghost use Rattle.decider.specs.Deciding.{marksAfter, placementAfter, placementIn};
+ghost use Rattle.writer.specs.Writing.{modelBytes, modelQuestions, written, writtenIn, writeQuestions, writtenOf, sheetAfter, writtenNumber};
 use book::Opened;
-use book::Sections;
 use counter::Counted;
-use decider::Decision;
+use layout::Sections;
+use outcomes::Decision;
 use sheets::Shape;
 
 // The number of the first check that says no, or the sheet's length.
@@ -41,27 +41,41 @@ fn shape_in(b: &[u8], s: Sections, elements: usize) -> Shape
     }
 }
 
-// Writes the sheet, where there is room for it: the marked types, with the individuals at their seats.
+// Reads a placement of so many individuals, two bytes each.
+fn read_placement(placement: &[u8], count: usize, seats: &mut [u16])
+    requires { ⌜ (2 * count ≤ length (now placement)) × (count ≤ length (now seats)) ⌝ }
+    ensures { λ _. ⌜ take count (now (seats .exit)) ≡ placementIn (now (placement .entry)) count ⌝ }
+{
+    let mut j = 0;
+    while j < count {
+        seats[j] = encoding::word(placement, 2 * j) as u16;
+        j += 1;
+    }
+}
+
+// Writes the sheet, where there is room for it: the marked types, with the individuals as placed.
 fn write_marked(
     b: &[u8],
     s: Sections,
     count: usize,
     marks: &[u8],
-    seats: &[u16],
+    placement: &[u8],
     p: Shape,
     sheet: &mut [u8],
 )
     requires { ⌜ Right (now b) s ⌝ }
     requires { ⌜ (p .elements ≡ length (survivorsOf (bookOf (now b)))) × (p .names ≡ nameCount (bookOf (now b))) × (p .roles ≡ roleCount (bookOf (now b))) × (p .individuals ≡ individualsOf (bookOf (now b))) ⌝ }
     requires { ⌜ (count ≤ 16384) × (count ≤ length (now marks)) × (marked (now marks) count ≡ survivorsOf (bookOf (now b))) ⌝ }
-    requires { ⌜ (p .elements ≤ 64) × (8 ≤ length (now seats)) × (placementOf (bookOf (now b)) ≡ some (take (p .individuals) (now seats))) × (endAt p ≤ length (now sheet)) ⌝ }
+    requires { ⌜ (p .elements ≤ 64) × (16 ≤ length (now placement)) × (placementOf (bookOf (now b)) ≡ some (placementIn (now placement) (p .individuals))) × (endAt p ≤ length (now sheet)) ⌝ }
     ensures { λ _. ⌜ now (sheet .exit) ≡ modelBytes (bookOf (now (b .entry))) ++ drop (endAt p) (now (sheet .entry)) ⌝ }
 {
     let individuals = p.individuals;
+    let mut seats = [0u16; 8];
+    read_placement(placement, individuals, &mut seats);
     let mut types = [0u16; 64];
     let n = models::list_marked(marks, count, &mut types);
     models::write_model(
-        book::terms_in(b, s),
+        layout::terms_in(b, s),
         book::logic_in(b, s),
         s.steps,
         p.names,
@@ -78,13 +92,13 @@ fn write_few(
     s: Sections,
     count: usize,
     marks: &[u8],
-    seats: &[u16],
+    placement: &[u8],
     survivors: usize,
     sheet: &mut [u8],
 ) -> Written
     requires { ⌜ Right (now b) s ⌝ }
     requires { ⌜ (count ≤ 16384) × (count ≤ length (now marks)) × (marked (now marks) count ≡ survivorsOf (bookOf (now b))) ⌝ }
-    requires { ⌜ (8 ≤ length (now seats)) × HoldsPlacement (now b) (now seats) × (outcomeOf (bookOf (now b)) ≡ 1) × (survivors ≡ length (survivorsOf (bookOf (now b)))) × (survivors ≤ 64) ⌝ }
+    requires { ⌜ (16 ≤ length (now placement)) × (outcomeOf (bookOf (now b)) ≡ 1 → placementOf (bookOf (now b)) ≡ some (placementIn (now placement) (individualsOf (bookOf (now b))))) × (outcomeOf (bookOf (now b)) ≡ 1) × (survivors ≡ length (survivorsOf (bookOf (now b)))) × (survivors ≤ 64) ⌝ }
     ensures { λ r. ⌜ r ≡ written (bookOf (now (b .entry))) (firstNo (modelQuestions (bookOf (now (b .entry))) (length (now (sheet .entry))))) ⌝ }
     ensures { λ _. ⌜ now (sheet .exit) ≡ writtenIn (bookOf (now (b .entry))) (firstNo (modelQuestions (bookOf (now (b .entry))) (length (now (sheet .entry))))) (now (sheet .entry)) ⌝ }
 {
@@ -93,7 +107,7 @@ fn write_few(
     if sheet.len() < length {
         return Written::Refused(19);
     }
-    write_marked(b, s, count, marks, seats, p, sheet);
+    write_marked(b, s, count, marks, placement, p, sheet);
     Written::Sheet(length)
 }
 
@@ -103,14 +117,14 @@ fn write_decided(
     s: Sections,
     count: usize,
     marks: &[u8],
-    seats: &[u16],
+    placement: &[u8],
     outcome: u8,
     survivors: usize,
     sheet: &mut [u8],
 ) -> Written
     requires { ⌜ Right (now b) s ⌝ }
     requires { ⌜ (count ≤ 16384) × (count ≤ length (now marks)) × (marked (now marks) count ≡ survivorsOf (bookOf (now b))) ⌝ }
-    requires { ⌜ (8 ≤ length (now seats)) × HoldsPlacement (now b) (now seats) × (outcome ≡ outcomeOf (bookOf (now b))) × (survivors ≡ length (survivorsOf (bookOf (now b)))) ⌝ }
+    requires { ⌜ (16 ≤ length (now placement)) × (outcomeOf (bookOf (now b)) ≡ 1 → placementOf (bookOf (now b)) ≡ some (placementIn (now placement) (individualsOf (bookOf (now b))))) × (outcome ≡ outcomeOf (bookOf (now b))) × (survivors ≡ length (survivorsOf (bookOf (now b)))) ⌝ }
     ensures { λ r. ⌜ r ≡ written (bookOf (now (b .entry))) (firstNo (modelQuestions (bookOf (now (b .entry))) (length (now (sheet .entry))))) ⌝ }
     ensures { λ _. ⌜ now (sheet .exit) ≡ writtenIn (bookOf (now (b .entry))) (firstNo (modelQuestions (bookOf (now (b .entry))) (length (now (sheet .entry))))) (now (sheet .entry)) ⌝ }
 {
@@ -120,7 +134,7 @@ fn write_decided(
     if 64 < survivors {
         return Written::Refused(18);
     }
-    write_few(b, s, count, marks, seats, survivors, sheet)
+    write_few(b, s, count, marks, placement, survivors, sheet)
 }
 
 // Decides, and goes on with what was decided.
@@ -130,25 +144,23 @@ fn write_counted(
     k: u64,
     marks: &mut [u8],
     placement: &mut [u8],
-    seats: &mut [u16],
     sheet: &mut [u8],
 ) -> Written
     requires { ⌜ Right (now b) s ⌝ }
     requires { ⌜ countedOf (now b) ≡ Candidates k ⌝ }
-    requires { ⌜ 8 ≤ length (now seats) ⌝ }
     ensures { λ r. ⌜ r ≡ writtenOf (now (b .entry)) (length (now (marks .entry))) (length (now (placement .entry))) (length (now (sheet .entry))) ⌝ }
     ensures { λ _. ⌜ now (marks .exit) ≡ marksAfter (now (b .entry)) (length (now (placement .entry))) (now (marks .entry)) ⌝ }
     ensures { λ _. ⌜ now (placement .exit) ≡ placementAfter (now (b .entry)) (length (now (marks .entry))) (now (placement .entry)) ⌝ }
     ensures { λ _. ⌜ now (sheet .exit) ≡ sheetAfter (now (b .entry)) (length (now (marks .entry))) (length (now (placement .entry))) (now (sheet .entry)) ⌝ }
 {
-    match decider::decide_counted(b, s, k, marks, placement, seats) {
+    match decider::decide_in(b, s, marks, placement) {
         Decision::Refused(n) => Written::Refused(n),
         Decision::Decided(outcome, survivors) => write_decided(
             b,
             s,
             k as usize,
             marks,
-            seats,
+            placement,
             outcome,
             survivors,
             sheet,
@@ -170,16 +182,16 @@ pub fn write_in(
     ensures { λ _. ⌜ now (placement .exit) ≡ placementAfter (now (b .entry)) (length (now (marks .entry))) (now (placement .entry)) ⌝ }
     ensures { λ _. ⌜ now (sheet .exit) ≡ sheetAfter (now (b .entry)) (length (now (marks .entry))) (length (now (placement .entry))) (now (sheet .entry)) ⌝ }
 {
-    let mut seats = [0u16; 8];
     match counter::count_in(b, s) {
         Counted::Refused(n) => Written::Refused(n),
-        Counted::Candidates(k) => write_counted(b, s, k, marks, placement, &mut seats, sheet),
+        Counted::Candidates(k) => write_counted(b, s, k, marks, placement, sheet),
     }
 }
 
 // Decides a book, and writes the sheet of its model.
 pub fn write_sheet(b: &[u8], marks: &mut [u8], placement: &mut [u8], sheet: &mut [u8]) -> Written
     ensures { λ r. ⌜ r ≡ writtenOf (now (b .entry)) (length (now (marks .entry))) (length (now (placement .entry))) (length (now (sheet .entry))) ⌝ }
+    ensures { λ r. ⌜ writtenNumber r ≡ firstNo (writeQuestions (now (b .entry)) (length (now (marks .entry))) (length (now (placement .entry))) (length (now (sheet .entry)))) ⌝ }
     ensures { λ _. ⌜ now (marks .exit) ≡ marksAfter (now (b .entry)) (length (now (placement .entry))) (now (marks .entry)) ⌝ }
     ensures { λ _. ⌜ now (placement .exit) ≡ placementAfter (now (b .entry)) (length (now (marks .entry))) (now (placement .entry)) ⌝ }
     ensures { λ _. ⌜ now (sheet .exit) ≡ sheetAfter (now (b .entry)) (length (now (marks .entry))) (length (now (placement .entry))) (now (sheet .entry)) ⌝ }

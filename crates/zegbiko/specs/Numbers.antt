@@ -6,8 +6,8 @@ use Rattle.book.specs.declared.Opened.{Opened}
 use Rattle.book.specs.declared.Opened.the-variants.{Refused, Accepted}
 use Rattle.counter.specs.declared.Counted.{Counted}
 use Rattle.counter.specs.declared.Counted.the-variants.{Refused as NotCounted, Candidates}
-use Rattle.decider.specs.declared.Decision.{Decision}
-use Rattle.decider.specs.declared.Decision.the-variants.{Refused as NotDecided, Decided}
+use Rattle.outcomes.specs.declared.Decision.{Decision}
+use Rattle.outcomes.specs.declared.Decision.the-variants.{Refused as NotDecided, Decided}
 use Rattle.writer.specs.declared.Written.{Written}
 use Rattle.writer.specs.declared.Written.the-variants.{Refused as NotWritten, Sheet}
 use Rattle.working.specs.declared.Verdict.{Verdict}

@@ -17,8 +17,8 @@ use Rattle.counter.specs.declared.Counted.{Counted}
 use Rattle.counter.specs.declared.Counted.the-variants.{Refused as NotCounted, Candidates}
 use Rattle.counter.proofs.Counting.{countedNumber-is}
 use Rattle.decider.specs.Deciding.{decideQuestions, decisionOf, decisionNumber}
-use Rattle.decider.specs.declared.Decision.{Decision}
-use Rattle.decider.specs.declared.Decision.the-variants.{Refused as NotDecided, Decided}
+use Rattle.outcomes.specs.declared.Decision.{Decision}
+use Rattle.outcomes.specs.declared.Decision.the-variants.{Refused as NotDecided, Decided}
 use Rattle.decider.proofs.Deciding.{decisionNumber-is}
 use Rattle.writer.specs.Writing.{writeQuestions, writtenOf, writtenNumber}
 use Rattle.writer.specs.declared.Written.{Written}

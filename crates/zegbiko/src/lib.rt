@@ -13,7 +13,7 @@ use book::Opened;
 use checker::Answer;
 use checker::Worked;
 use counter::Counted;
-use decider::Decision;
+use outcomes::Decision;
 use working::Verdict;
 use writer::Written;
 

@@ -5,7 +5,7 @@ use mathlib.Core.Path.{_≡_, ap, _∙_}
 use borrow.Author.Needs.{needs}
 use Rattle.book.proofs.Reading.{right-book}
 use Rattle.book.proofs.Opening.{right-steps}
-use Rattle.book.specs.Layout.{termBytes}
+use Rattle.layout.specs.Layout.{termBytes}
 use Rattle.gradings.proofs.Gradings.{base-grading}
 use Rattle.gradings.specs.declared.Logic.{Logic}
 use Rattle.gradings.specs.Gradings.{grading}

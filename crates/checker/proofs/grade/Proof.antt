@@ -6,7 +6,7 @@ use Rattle.book.proofs.Opening.{opened-accepted}
 use Rattle.counter.specs.Counting.{candidateQuestions}
 use Rattle.counter.proofs.Counting.{counted-declined, counted-refused}
 use Rattle.checker.specs.Asking.{gradeAnswer}
-use Rattle.checker.proofs.Asking.{answered-before}
+use Rattle.checker.proofs.Asking.{grade-answers, answered-before}
 use Rattle.checker.proofs.grade.Statement.{statement}
 use Rattle.checker.proofs.grade.Tie as tie
 
@@ -20,16 +20,17 @@ enum-known-s : tie.Need-enum-known-s
 enum-known-s c = search needs
 
 grade-in-requires : tie.Need-grade-in-requires
-grade-in-requires c κs = opened-accepted _ _ (sym (c .before .before .before .«open» .ensures) ∙ c .before .s .given .1)
+grade-in-requires c κs = opened-accepted _ _ (sym (c .before .before .before .«open» .ensures .0) ∙ c .before .s .given .1)
 
 returns : tie.Need-returns
 unfolding gradeAnswer
 returns c =
-    sym (answered-before _ (candidateQuestions (c .before .before .before .before .before .args .b .now)) 20 21 _ _ _
-    (counted-declined _ _ (counted-refused _ _ (sym (c .before .before .before .«open» .ensures) ∙ c .before .n .given .1))))
+    let s = c .before .before .before .before .before in
+    grade-answers (s .args .b .now) (s .args .c) (s .args .i) _ (sym (answered-before _ (candidateQuestions (c .before .before .before .before .before .args .b .now)) 20 21 _ _ _
+    (counted-declined _ _ (counted-refused _ _ (sym (c .before .before .before .«open» .ensures .0) ∙ c .before .n .given .1)))))
 
 returns-2 : tie.Need-returns-2
-returns-2 c = search needs
+returns-2 c = grade-answers _ _ _ _ (c .grade-in .ensures)
 
 pub grade-spec : {M : Type 1} → statement M
 grade-spec =

@@ -4,7 +4,7 @@ use mathlib.Core.Path.{sym, _∙_}
 use lib.ListN.{length}
 use borrow.Author.Needs.{needs}
 use Rattle.book.proofs.Opening.{opened-accepted}
-use Rattle.checker.proofs.Working.{work-book, refused}
+use Rattle.checker.proofs.Working.{worked-answers, work-book, refused}
 use Rattle.checker.proofs.work_out.Statement.{statement}
 use Rattle.checker.proofs.work_out.Tie as tie
 
@@ -18,19 +18,19 @@ enum-known-s : tie.Need-enum-known-s
 enum-known-s c = search needs
 
 work-in-requires : tie.Need-work-in-requires
-work-in-requires c κs = opened-accepted _ _ (sym (c .before .before .before .before .«open» .ensures) ∙ c .before .before .s .given .1)
+work-in-requires c κs = opened-accepted _ _ (sym (c .before .before .before .before .«open» .ensures .0) ∙ c .before .before .s .given .1)
 
 returns : tie.Need-returns
 returns c =
     let start = c .before .before .before .before .before .before .before in
-    refused _ _ _ _ (work-book _ (start .args .sheet .now) (length (start .args .grid .now)) _
-    (sym (c .before .before .before .«open» .ensures) ∙ c .before .n .given .1))
+    worked-answers _ _ _ _ (refused _ _ _ _ (work-book _ (start .args .sheet .now) (length (start .args .grid .now)) _
+    (sym (c .before .before .before .«open» .ensures .0) ∙ c .before .n .given .1)))
 
 same-length : tie.Need-same-length
 same-length c = search needs
 
 returns-2 : tie.Need-returns-2
-returns-2 c = search needs
+returns-2 c = worked-answers _ _ _ _ (c .before .before .work-in .ensures)
 
 pub work-out-spec : {M : Type 1} → statement M
 work-out-spec =

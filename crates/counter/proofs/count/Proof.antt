@@ -3,7 +3,7 @@
 use mathlib.Core.Path.{sym, _∙_}
 use borrow.Author.Needs.{needs}
 use Rattle.book.proofs.Opening.{opened-accepted}
-use Rattle.counter.proofs.Counting.{counted-refused}
+use Rattle.counter.proofs.Counting.{counted-refused, counted-answers}
 use Rattle.counter.proofs.count.Statement.{statement}
 use Rattle.counter.proofs.count.Tie as tie
 
@@ -17,13 +17,13 @@ enum-known-s : tie.Need-enum-known-s
 enum-known-s c = search needs
 
 count-in-requires : tie.Need-count-in-requires
-count-in-requires c κs = opened-accepted _ _ (sym (c .before .before .before .«open» .ensures) ∙ c .before .s .given .1)
+count-in-requires c κs = opened-accepted _ _ (sym (c .before .before .before .«open» .ensures .0) ∙ c .before .s .given .1)
 
 returns : tie.Need-returns
-returns c = sym (counted-refused _ _ (sym (c .before .before .before .«open» .ensures) ∙ c .before .n .given .1))
+returns c = counted-answers _ _ (sym (counted-refused _ _ (sym (c .before .before .before .«open» .ensures .0) ∙ c .before .n .given .1)))
 
 returns-2 : tie.Need-returns-2
-returns-2 c = search needs
+returns-2 c = counted-answers _ _ (c .count-in .ensures)
 
 pub count-spec : {M : Type 1} → statement M
 count-spec =

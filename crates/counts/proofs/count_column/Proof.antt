@@ -8,7 +8,7 @@ use lib.ListN.{getD}
 use borrow.Author.Needs.{needs}
 use Rattle.chain.proofs.Lists.{highest-none, highest-table}
 use Rattle.chain.specs.Lists.{highest, table}
-use Rattle.sections.specs.Claims.{claimCount}
+use Rattle.claims.specs.Claims.{claimCount}
 use Rattle.counts.specs.Columns.{column}
 use Rattle.counts.proofs.count_column.Statement.{statement}
 use Rattle.counts.proofs.count_column.Tie as tie

@@ -31,7 +31,7 @@ enum-known-s : tie.Need-enum-known-s
 enum-known-s c = search needs
 
 print-decision-requires : tie.Need-print-decision-requires
-print-decision-requires c κs = opened-accepted _ _ (sym (c .before .before .before .«open» .ensures) ∙ c .before .s .given .1)
+print-decision-requires c κs = opened-accepted _ _ (sym (c .before .before .before .«open» .ensures .0) ∙ c .before .s .given .1)
 
 returns : tie.Need-returns
 returns c = search needs

@@ -5,7 +5,7 @@ use lib.ListN.{length}
 use borrow.Author.Needs.{needs}
 use Rattle.book.proofs.Opening.{opened-accepted}
 use Rattle.counter.proofs.Counting.{counted-declined, counted-refused}
-use Rattle.decider.proofs.Deciding.{decide-before, refused}
+use Rattle.decider.proofs.Deciding.{decide-before, refused, decided-answers}
 use Rattle.decider.proofs.decide.Statement.{statement}
 use Rattle.decider.proofs.decide.Tie as tie
 
@@ -19,12 +19,14 @@ enum-known-s : tie.Need-enum-known-s
 enum-known-s c = search needs
 
 decide-in-requires : tie.Need-decide-in-requires
-decide-in-requires c κs = opened-accepted _ _ (sym (c .before .before .before .before .before .«open» .ensures) ∙ c .before .before .before .s .given .1)
+decide-in-requires c κs = opened-accepted _ _ (sym (c .before .before .before .before .before .«open» .ensures .0) ∙ c .before .before .before .s .given .1)
 
 returns : tie.Need-returns
 returns c =
     let s = c .before .before .before .before .before .before .before in
-    refused (s .args .b .now) (s .args .marks .now) (s .args .placement .now) _ (decide-before (s .args .b .now) (length (s .args .marks .now)) (length (s .args .placement .now)) _ (counted-declined _ _ (counted-refused _ _ (sym (c .before .before .before .«open» .ensures) ∙ c .before .n .given .1))))
+    decided-answers _ _ _ _ (refused (s .args .b .now) (s .args .marks .now) (s .args .placement .now) _
+    (decide-before (s .args .b .now) (length (s .args .marks .now)) (length (s .args .placement .now)) _
+    (counted-declined _ _ (counted-refused _ _ (sym (c .before .before .before .«open» .ensures .0) ∙ c .before .n .given .1)))))
 
 same-length : tie.Need-same-length
 same-length c = search needs
@@ -33,7 +35,7 @@ same-length-2 : tie.Need-same-length-2
 same-length-2 c = search needs
 
 returns-2 : tie.Need-returns-2
-returns-2 c = search needs
+returns-2 c = decided-answers _ _ _ _ (c .before .before .before .before .decide-in .ensures)
 
 pub decide-spec : {M : Type 1} → statement M
 decide-spec =

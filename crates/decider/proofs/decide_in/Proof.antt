@@ -1,7 +1,6 @@
 -- `decider::decide_in` meets its contract.
 -- Assumes nothing.
 use mathlib.Core.Path.{sym, _∙_}
-use native.Mathlib.Omega.{arith}
 use lib.ListN.{length}
 use borrow.Author.Needs.{needs}
 use Rattle.counter.proofs.Counting.{counted-declined}
@@ -18,16 +17,14 @@ enum-known-n c = search needs
 enum-known-k : tie.Need-enum-known-k
 enum-known-k c = search needs
 
-slice-aggregate-decide-counted : tie.Need-slice-aggregate-decide-counted
-slice-aggregate-decide-counted c = search needs
-
 decide-counted-requires : tie.Need-decide-counted-requires
-decide-counted-requires c κs = (c .before .before .before .before .before .before .before .before .before .before .pre, (sym (c .before .before .before .before .before .before .count-in .ensures) ∙ c .before .before .before .before .k .given .1, omega arith))
+decide-counted-requires c κs = (c .before .before .before .before .before .before .before .before .before .pre, sym (c .before .before .before .before .before .count-in .ensures) ∙ c .before .before .before .k .given .1)
 
 returns : tie.Need-returns
 returns c =
     let s = c .before .before .before .before .before .before .before in
-    refused (s .args .b .now) (s .args .marks .now) (s .args .placement .now) _ (decide-before (s .args .b .now) (length (s .args .marks .now)) (length (s .args .placement .now)) _ (counted-declined _ _ (sym (c .before .before .before .count-in .ensures) ∙ c .before .n .given .1)))
+    refused (s .args .b .now) (s .args .marks .now) (s .args .placement .now) _
+    (decide-before (s .args .b .now) (length (s .args .marks .now)) (length (s .args .placement .now)) _ (counted-declined _ _ (sym (c .before .before .before .count-in .ensures) ∙ c .before .n .given .1)))
 
 same-length : tie.Need-same-length
 same-length c = search needs
@@ -36,9 +33,7 @@ same-length-2 : tie.Need-same-length-2
 same-length-2 c = search needs
 
 returns-2 : tie.Need-returns-2
-returns-2 c =
-    let s = c .before .before .before .before .before in
-    (s .decide-counted .ensures .0, (s .decide-counted .ensures .1 .0, s .decide-counted .ensures .1 .1 .0))
+returns-2 c = c .before .before .before .before .decide-counted .ensures
 
 pub decide-in-spec : {M : Type 1} → statement M
 decide-in-spec =
@@ -47,7 +42,6 @@ decide-in-spec =
     count-in-requires
     enum-known-n
     enum-known-k
-    slice-aggregate-decide-counted
     decide-counted-requires
     returns
     same-length

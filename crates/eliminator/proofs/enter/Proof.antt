@@ -6,7 +6,7 @@ use lib.ListN.{length}
 use borrow.Author.Needs.{needs}
 use Rattle.types.specs.Candidates.{gradeIn}
 use Rattle.sections.specs.Terms.{termsOf}
-use Rattle.sections.specs.Rules.{RulesRight}
+use Rattle.claims.specs.Rules.{RulesRight}
 use Rattle.sections.proofs.Terms.{length-terms, terms-ordered}
 use Rattle.gradings.specs.Gradings.{grading}
 use Rattle.grades.proofs.Rows.{filled-grades}

@@ -6,7 +6,7 @@ use native.Mathlib.Omega.{arith}
 use lib.ListN.{length}
 use borrow.Author.Needs.{needs}
 use Rattle.sections.specs.Terms.{termsOf}
-use Rattle.sections.specs.Rules.{rulesOf}
+use Rattle.claims.specs.Rules.{rulesOf}
 use Rattle.gradings.specs.Gradings.{grading}
 use Rattle.eliminator.specs.Filling.{Entered, Indexed}
 use Rattle.eliminator.specs.Eliminating.{Task}

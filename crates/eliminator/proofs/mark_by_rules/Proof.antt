@@ -6,7 +6,7 @@ use native.Mathlib.Omega.{arith}
 use lib.ListN.{getD}
 use borrow.Author.Count.{below-none, below-more}
 use borrow.Author.Needs.{needs}
-use Rattle.sections.specs.Rules.{ruleCount, ruleAt}
+use Rattle.claims.specs.Rules.{ruleCount, ruleAt}
 use Rattle.eliminator.proofs.mark_by_rules.Statement.{statement}
 use Rattle.eliminator.proofs.mark_by_rules.Tie as tie
 

@@ -4,7 +4,7 @@ use native.Mathlib.Omega.{arith}
 use lib.ListN.{length}
 use borrow.Author.Needs.{needs}
 use Rattle.sections.specs.Terms.{termsOf}
-use Rattle.sections.specs.Rules.{rulesOf}
+use Rattle.claims.specs.Rules.{rulesOf}
 use Rattle.sections.proofs.Terms.{terms-ordered}
 use Rattle.gradings.specs.Gradings.{grading}
 use Rattle.eliminator.proofs.Ends.{entered-zoned, ready-of, into-of, counted-of, settled-survivors}

@@ -5,7 +5,7 @@ use native.Mathlib.Omega.{arith}
 use borrow.Author.Count.{below-none, below-more}
 use borrow.Author.Needs.{needs}
 use Rattle.chain.proofs.Decisions.{tells-yes, tells-no, told-yes, told-no}
-use Rattle.sections.specs.Claims.{claimCount}
+use Rattle.claims.specs.Claims.{claimCount}
 use Rattle.grades.specs.Rows.{entry}
 use Rattle.filter.specs.Filter.{MembershipBy}
 use Rattle.filter.proofs.memberships_met.Statement.{statement}

@@ -5,7 +5,7 @@ use Prim.Native.Nat.{ℕ}
 use native.Mathlib.Omega.{arith}
 use lib.ListN.{length}
 use borrow.Author.Needs.{needs}
-use Rattle.sections.specs.Terms.{termOf, InRange, kindAt, aAt, bAt}
+use Rattle.sections.specs.Terms.{Described, kindAt, aAt, bAt}
 use Rattle.sections.proofs.Terms.{range-kind}
 use Rattle.grades.proofs.OneTerm.{grade-kind, grade-place}
 use Rattle.grades.proofs.term_grade.Statement.{statement}
@@ -16,7 +16,7 @@ module _ (c : tie.Start) where
   abbrev number : ℕ
   number = length (c .args .earlier .now)
 
-  range : (k : ℕ) → kindAt (c .args .terms .now) number ≡ k → InRange number (termOf k (aAt (c .args .terms .now) number) (bAt (c .args .terms .now) number))
+  range : (k : ℕ) → kindAt (c .args .terms .now) number ≡ k → Described number k (aAt (c .args .terms .now) number) (bAt (c .args .terms .now) number)
   range = range-kind (c .args .terms .now) number (c .pre .0) (c .pre .1 .0)
 
 mul-kind : tie.Need-mul-kind
@@ -38,7 +38,7 @@ add-b : tie.Need-add-b
 add-b c = search needs
 
 child-grade-requires : tie.Need-child-grade-requires
-child-grade-requires c κs = (omega arith, range (c .before .before .before .before) 1 (c .match .keys1))
+child-grade-requires c κs = (omega arith, range (c .before .before .before .before) 1 (c .match .keys1) .0)
 
 negation-requires : tie.Need-negation-requires
 negation-requires c κs =

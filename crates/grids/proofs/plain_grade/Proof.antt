@@ -4,7 +4,7 @@ use mathlib.Core.Path.{_≡_, subst}
 use mathlib.Core.List.{List}
 use Prim.Native.Nat.{ℕ}
 use native.Mathlib.Omega.{arith}
-use Rattle.sections.specs.Terms.{termOf, InRange}
+use Rattle.sections.specs.Terms.{termOf, Described}
 use Rattle.grids.specs.Workable.{gradeFrom}
 use Rattle.grids.proofs.Workable.{grade-kind, grade-bottom}
 use Rattle.grids.proofs.plain_grade.Statement.{statement}
@@ -12,8 +12,8 @@ use Rattle.grids.proofs.plain_grade.Tie as tie
 
 -- where the kind is known: the operands' bounds, and the grade
 module _ (s : tie.Start) (k : ℕ) (h : s .args .kind ≡ k) where
-  ranged : InRange (s .args .i) (termOf k (s .args .x) (s .args .y))
-  ranged = subst (λ (z : ℕ). InRange (s .args .i) (termOf z (s .args .x) (s .args .y))) h (s .pre .0 .2)
+  ranged : Described (s .args .i) k (s .args .x) (s .args .y)
+  ranged = subst (λ (z : ℕ). Described (s .args .i) z (s .args .x) (s .args .y)) h (s .pre .0 .2)
 
   kinded : (n A : ℕ) (ns ls : List ℕ)
       → gradeFrom (s .args .logic) n A ns ls (s .args .values .now) (s .args .i) (termOf k (s .args .x) (s .args .y)) (s .args .e)
@@ -22,10 +22,10 @@ module _ (s : tie.Start) (k : ℕ) (h : s .args .kind ≡ k) where
       grade-kind (s .args .kind) (s .args .x) (s .args .y) (s .args .logic) n A ns ls (s .args .values .now) (s .args .i) (s .args .e) k h
 
 cell-requires : tie.Need-cell-requires
-cell-requires c κs = omega (arith, ranged (c .before .before) 1 (c .match .keys1))
+cell-requires c κs = omega (arith, ranged (c .before .before) 1 (c .match .keys1) .0)
 
 negation-requires : tie.Need-negation-requires
-negation-requires c κs = rw (c .cell .ensures) (c .before .before .before .pre .1 .0 _ (ranged (c .before .before .before) 1 (c .before .match .keys1)))
+negation-requires c κs = rw (c .cell .ensures) (c .before .before .before .pre .1 .0 _ (ranged (c .before .before .before) 1 (c .before .match .keys1) .0))
 
 cell-requires-2 : tie.Need-cell-requires-2
 cell-requires-2 c κs = omega (arith, ranged (c .before .before) 2 (c .match .keys2) .0)

@@ -6,9 +6,8 @@ use Prim.Native.Nat.{ℕ, _≤_, _-_}
 use native.Mathlib.Omega.{arith}
 use lib.ListN.{length, getD, drop, set, length-set}
 use borrow.Author.Needs.{needs}
-use Rattle.chain.specs.Lists.{table}
+use Rattle.chain.specs.Lists.{table, index}
 use Rattle.chain.proofs.Lists.{zero-filled, set-filled, table-filled}
-use Rattle.chain.specs.Lists.{index}
 use Rattle.models.proofs.write_seats.Statement.{statement}
 use Rattle.models.proofs.write_seats.Tie as tie
 

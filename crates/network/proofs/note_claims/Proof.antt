@@ -5,7 +5,7 @@ use Prim.Native.Nat.{_≤_, _-_, ℕ}
 use native.Mathlib.Omega.{arith}
 use lib.ListN.{length}
 use borrow.Author.Needs.{needs}
-use Rattle.sections.specs.Claims.{claimCount}
+use Rattle.claims.specs.Claims.{claimCount}
 use Rattle.network.specs.Levels.{LevelsOf}
 use Rattle.network.proofs.Levels.{levels-none}
 use Rattle.network.proofs.note_claims.Statement.{statement}

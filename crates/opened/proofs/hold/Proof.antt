@@ -36,10 +36,10 @@ use denote.Triple.Table.{entered}
 use denote.Triple.Walked.{says, Stays, stay-none, stay-none-slice, walkOf, goes-none, goes-none-slice, Walks, ends-at, walked, walk-meets}
 use denote.Exit.{yes}
 use Rattle.opened.specs.declared.Book.{Book}
-use Rattle.book.specs.declared.Sections.{Sections}
+use Rattle.layout.specs.declared.Sections.{Sections}
 use Rattle.opened.proofs.Book as T
-use Rattle.book.proofs.Sections as P
-use Rattle.book.proofs.Sections.Laws as P′
+use Rattle.layout.proofs.Sections as P
+use Rattle.layout.proofs.Sections.Laws as P′
 use Rattle.opened.proofs.Book.Laws as T′
 use Rattle.opened.proofs.hold.Key.{name as #opened·hold}
 use Rattle.opened.proofs.hold as hold

@@ -57,7 +57,22 @@ all-below-requires : tie.Need-all-below-requires
 all-below-requires c κs = search needs
 
 returns-3 : tie.Need-returns-3
-returns-3 c = tells-then _ (simp (c .before .before .before .before .before .before .before .before .before .before .links-at .ensures) at (told-yes _ (c .before .before .before .before .before .before .all-at-most .ensures) (c .before .before .before .before .before .if1 .left))) (tells-then _ (simp (c .before .before .before .before .before .before .before .before .before .before .links-at .ensures, c .before .before .before .before .before .before .before .before .before .individuals-at .ensures) at (told-yes _ (c .before .before .before .all-at-most2 .ensures) (c .before .before .if2 .left))) (simp (c .before .before .before .before .before .before .before .before .before .individuals-at .ensures, c .before .before .before .before .before .before .before .before .end-at .ensures) at (c .all-below .ensures)))
+returns-3 c =
+    tells-then _ (simp (c .before .before .before .before .before .before .before .before .before .before .links-at .ensures) at
+    (told-yes _ (c .before .before .before .before .before .before .all-at-most .ensures)
+    (c .before .before .before .before .before .if1 .left)))
+    (tells-then _
+    (simp (
+      c .before .before .before .before .before .before .before .before .before .before .links-at .ensures,
+      c .before .before .before .before
+          .before .before .before .before .before .individuals-at .ensures,
+    ) at
+    (told-yes _ (c .before .before .before .all-at-most2 .ensures) (c .before .before .if2 .left)))
+    (simp (
+      c .before .before .before .before .before .before .before .before .before .individuals-at .ensures,
+      c .before .before .before .before
+          .before .before .before .before .end-at .ensures,
+    ) at (c .all-below .ensures)))
 
 pub entries-right-spec : {M : Type 1} → statement M
 entries-right-spec =

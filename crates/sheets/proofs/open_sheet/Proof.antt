@@ -4,7 +4,7 @@ use mathlib.Core.Path.{sym, _∙_, ap}
 use native.Mathlib.Omega.{arith}
 use borrow.Author.Needs.{needs}
 use Rattle.chain.proofs.Decisions.{told-yes, told-no}
-use Rattle.sheets.specs.declared.Sheet.the-variants.{Right}
+use Rattle.sheets.specs.declared.Sheet.the-variants.{Accepted}
 use Rattle.sheets.proofs.Opening.{sheet-13, sheet-14, sheet-15, sheet-none}
 use Rattle.sheets.proofs.open_sheet.Statement.{statement}
 use Rattle.sheets.proofs.open_sheet.Tie as tie
@@ -28,10 +28,21 @@ entries-right-requires : tie.Need-entries-right-requires
 entries-right-requires c κs = omega (arith, told-yes _ (c .before .sheet-laid-out .ensures) (c .if2 .left))
 
 returns-3 : tie.Need-returns-3
-returns-3 c = sym (sheet-15 _ _ _ _ _ (told-yes _ (c .before .before .before .before .before .before .head-right .ensures) (c .before .before .before .before .before .if1 .left)) (rw (← c .before .before .before .before .shape-of .ensures .0) (told-yes _ (c .before .before .before .sheet-laid-out .ensures) (c .before .before .if2 .left))) (rw (← c .before .before .before .before .shape-of .ensures .0) (told-no _ (c .before .entries-right .ensures) (c .if3 .taken))))
+returns-3 c =
+    sym (sheet-15 _ _ _ _ _ (told-yes _ (c .before .before .before .before .before .before .head-right .ensures)
+    (c .before .before .before .before .before .if1 .left))
+    (rw (← c .before .before .before .before .shape-of .ensures .0)
+    (told-yes _ (c .before .before .before .sheet-laid-out .ensures) (c .before .before .if2 .left)))
+    (rw (← c .before .before .before .before .shape-of .ensures .0) (told-no _ (c .before .entries-right .ensures) (c .if3 .taken))))
 
 returns-4 : tie.Need-returns-4
-returns-4 c = ap Right (c .before .before .before .before .shape-of .ensures .0) ∙ sym (sheet-none _ _ _ _ _ (told-yes _ (c .before .before .before .before .before .before .head-right .ensures) (c .before .before .before .before .before .if1 .left)) (rw (← c .before .before .before .before .shape-of .ensures .0) (told-yes _ (c .before .before .before .sheet-laid-out .ensures) (c .before .before .if2 .left))) (rw (← c .before .before .before .before .shape-of .ensures .0) (told-yes _ (c .before .entries-right .ensures) (c .if3 .left))))
+returns-4 c =
+    ap Accepted (c .before .before .before .before .shape-of .ensures .0) ∙ sym
+    (sheet-none _ _ _ _ _ (told-yes _ (c .before .before .before .before .before .before .head-right .ensures)
+    (c .before .before .before .before .before .if1 .left))
+    (rw (← c .before .before .before .before .shape-of .ensures .0)
+    (told-yes _ (c .before .before .before .sheet-laid-out .ensures) (c .before .before .if2 .left)))
+    (rw (← c .before .before .before .before .shape-of .ensures .0) (told-yes _ (c .before .entries-right .ensures) (c .if3 .left))))
 
 pub open-sheet-spec : {M : Type 1} → statement M
 open-sheet-spec =

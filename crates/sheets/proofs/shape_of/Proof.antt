@@ -32,7 +32,17 @@ wide-requires-4 c κs = search needs
 
 returns : tie.Need-returns
 unfolding shapeOf
-returns c = (simp (c .before .before .before .before .before .before .wide .ensures .0, c .before .before .before .before .wide2 .ensures .0, c .before .before .wide3 .ensures .0, c .wide4 .ensures .0), bytes-indexable _ (c .before .before .before .before .before .before .wide .ensures .1) (c .before .before .before .before .wide2 .ensures .1) (c .before .before .wide3 .ensures .1) (c .wide4 .ensures .1))
+returns c = (
+  simp (
+    c .before .before .before .before .before .before .wide .ensures .0,
+    c .before .before .before .before .wide2 .ensures .0,
+    c .before
+        .before .wide3 .ensures .0,
+    c .wide4 .ensures .0,
+  ),
+  bytes-indexable _ (c .before .before .before .before .before .before .wide .ensures .1)
+      (c .before .before .before .before .wide2 .ensures .1) (c .before .before .wide3 .ensures .1) (c .wide4 .ensures .1),
+)
 
 pub shape-of-spec : {M : Type 1} → statement M
 shape-of-spec =

@@ -34,7 +34,13 @@ end-at-requires : tie.Need-end-at-requires
 end-at-requires c κs = search needs
 
 returns-4 : tie.Need-returns-4
-returns-4 c = tells-then _ (sym (c .before .before .before .before .before .before .before .before .word .ensures .0) ∙ c .before .before .before .before .before .before .before .if1 .left) (tells-then _ (sym (c .before .before .before .before .before .before .word2 .ensures .0) ∙ c .before .before .before .before .if2 .left ∙ c .before .before .before .before .before .links-at .ensures) (tells-then _ (sym (c .before .before .before .word3 .ensures .0) ∙ c .before .if3 .left ∙ c .before .before .individuals-at .ensures) (rw (← c .end-at .ensures) (tells-eq _ _))))
+returns-4 c =
+    tells-then _ (sym (c .before .before .before .before .before .before .before .before .word .ensures .0)
+    ∙ c .before .before .before .before .before .before .before .if1 .left)
+    (tells-then _ (sym (c .before .before .before .before .before .before .word2 .ensures .0) ∙ c .before .before .before .before .if2 .left
+    ∙ c .before .before .before .before .before .links-at .ensures)
+    (tells-then _ (sym (c .before .before .before .word3 .ensures .0) ∙ c .before .if3 .left ∙ c .before .before .individuals-at .ensures)
+    (rw (← c .end-at .ensures) (tells-eq _ _))))
 
 pub sheet-laid-out-spec : {M : Type 1} → statement M
 sheet-laid-out-spec =

@@ -18,7 +18,17 @@ wide-requires-2 : tie.Need-wide-requires-2
 wide-requires-2 c κs = search needs
 
 returns : tie.Need-returns
-returns c = let e : c .wide2 .result ≡ getD (c .before .before .before .before .args .individuals .now) (c .before .before .before .before .args .j) 0 = c .wide2 .ensures .0 ∙ ap (λ (k : ℕ). getD (c .before .before .before .before .args .individuals .now) k 0) (c .before .before .wide .ensures .0) in (e, omega (arith, c .before .before .before .before .pre .1 (c .before .before .before .before .args .j) (c .before .before .before .before .pre .0)))
+returns c =
+    let e : c .wide2 .result ≡ getD (c .before .before .before .before .args .individuals .now)
+    (c .before .before .before .before .args .j) 0 = c .wide2 .ensures .0 ∙ ap
+    (λ (k : ℕ). getD (c .before .before .before .before .args .individuals .now) k 0) (c .before .before .wide .ensures .0) in (
+      e,
+      omega (
+        arith,
+        c .before .before .before .before .pre .1 (c .before .before .before .before .args .j)
+            (c .before .before .before .before .pre .0),
+      ),
+    )
 
 pub element-spec : {M : Type 1} → statement M
 element-spec = tie.close (tie.spec wide-requires shared-slice-read-wide wide-requires-2 returns)

@@ -4,7 +4,7 @@ use mathlib.Core.Path.{_≡_}
 use Prim.Native.Nat.{_≤_, _-_}
 use native.Mathlib.Omega.{arith}
 use borrow.Author.Needs.{needs}
-use Rattle.sections.specs.Rules.{ruleAt}
+use Rattle.claims.specs.Rules.{ruleAt}
 use Rattle.working.specs.Working.{firstBroken, ruleVerdictAt, ruleVerdict}
 use Rattle.working.specs.declared.Verdict.the-variants.{Meets}
 use Rattle.working.proofs.Working.{first-start, first-more, first-end, first-found, rule-broken}

@@ -5,7 +5,7 @@ use Prim.Native.Nat.{_≤_, _-_}
 use native.Mathlib.Omega.{arith}
 use borrow.Author.Needs.{needs}
 use Rattle.chain.proofs.Decisions.{told-yes, told-no}
-use Rattle.sections.specs.Rules.{ruleCount, ruleAt}
+use Rattle.claims.specs.Rules.{ruleCount, ruleAt}
 use Rattle.working.specs.Working.{firstBroken, ruleVerdict}
 use Rattle.working.specs.declared.Verdict.the-variants.{Meets}
 use Rattle.working.proofs.Working.{first-start, first-more, first-end, first-found}

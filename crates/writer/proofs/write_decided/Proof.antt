@@ -12,12 +12,14 @@ use Rattle.writer.proofs.write_decided.Tie as tie
 returns : tie.Need-returns
 returns c =
     let s = c .before .before .before .before .before in
-    model-refused (bookOf (s .args .b .now)) (length (s .args .sheet .now)) 17 (s .args .sheet .now) (model-17 (bookOf (s .args .b .now)) (length (s .args .sheet .now)) (λ h. c .if1 .taken (s .pre .1 .1 .2 ∙ h)))
+    model-refused (bookOf (s .args .b .now)) (length (s .args .sheet .now)) 17 (s .args .sheet .now)
+    (model-17 (bookOf (s .args .b .now)) (length (s .args .sheet .now)) (λ h. c .if1 .taken (s .pre .1 .1 .2 ∙ h)))
 
 returns-2 : tie.Need-returns-2
 returns-2 c =
     let s = c .before .before .before .before .before .before in
-    model-refused (bookOf (s .args .b .now)) (length (s .args .sheet .now)) 18 (s .args .sheet .now) (model-18 (bookOf (s .args .b .now)) (length (s .args .sheet .now)) (sym (s .pre .1 .1 .2) ∙ c .before .if1 .left) (λ h. omega (arith, c .if2 .taken, s .pre .1 .1 .3, h)))
+    model-refused (bookOf (s .args .b .now)) (length (s .args .sheet .now)) 18 (s .args .sheet .now)
+    (model-18 (bookOf (s .args .b .now)) (length (s .args .sheet .now)) (sym (s .pre .1 .1 .2) ∙ c .before .if1 .left) (λ h. omega (arith, c .if2 .taken, s .pre .1 .1 .3, h)))
 
 write-few-requires : tie.Need-write-few-requires
 write-few-requires c κs =
@@ -32,4 +34,10 @@ returns-3 c = search needs
 
 pub write-decided-spec : {M : Type 1} → statement M
 write-decided-spec =
-    tie.close (tie.spec returns returns-2 write-few-requires same-length returns-3)
+    tie.close
+    (tie.spec
+    returns
+    returns-2
+    write-few-requires
+    same-length
+    returns-3)

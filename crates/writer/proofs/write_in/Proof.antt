@@ -1,7 +1,6 @@
 -- `writer::write_in` meets its contract.
 -- Assumes nothing.
 use mathlib.Core.Path.{sym, _∙_}
-use native.Mathlib.Omega.{arith}
 use lib.ListN.{length}
 use borrow.Author.Needs.{needs}
 use Rattle.counter.proofs.Counting.{counted-declined}
@@ -19,11 +18,8 @@ enum-known-n c = search needs
 enum-known-k : tie.Need-enum-known-k
 enum-known-k c = search needs
 
-slice-aggregate-write-counted : tie.Need-slice-aggregate-write-counted
-slice-aggregate-write-counted c = search needs
-
 write-counted-requires : tie.Need-write-counted-requires
-write-counted-requires c κs = (c .before .before .before .before .before .before .before .before .before .before .before .before .pre, (sym (c .before .before .before .before .before .before .before .count-in .ensures) ∙ c .before .before .before .before .before .k .given .1, omega arith))
+write-counted-requires c κs = (c .before .before .before .before .before .before .before .before .before .before .before .pre, sym (c .before .before .before .before .before .before .count-in .ensures) ∙ c .before .before .before .before .k .given .1)
 
 returns : tie.Need-returns
 returns c =
@@ -52,7 +48,6 @@ write-in-spec =
     count-in-requires
     enum-known-n
     enum-known-k
-    slice-aggregate-write-counted
     write-counted-requires
     returns
     same-length

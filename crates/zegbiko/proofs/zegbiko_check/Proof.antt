@@ -13,7 +13,7 @@ checked-number-requires : tie.Need-checked-number-requires
 checked-number-requires c κs = search needs
 
 returns : tie.Need-returns
-returns c = c .checked-number .ensures ∙ ap checkedNumber (c .before .«open» .ensures)
+returns c = c .checked-number .ensures ∙ ap checkedNumber (c .before .«open» .ensures .0)
 
 pub zegbiko-check-spec : {M : Type 1} → statement M
 zegbiko-check-spec = tie.close (tie.spec open-requires checked-number-requires returns)

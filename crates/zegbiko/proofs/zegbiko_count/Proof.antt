@@ -13,7 +13,7 @@ counted-numbers-requires : tie.Need-counted-numbers-requires
 counted-numbers-requires c κs = search needs
 
 returns : tie.Need-returns
-returns c = c .counted-numbers .ensures ∙ ap countedNumbers (c .before .count .ensures)
+returns c = c .counted-numbers .ensures ∙ ap countedNumbers (c .before .count .ensures .0)
 
 pub zegbiko-count-spec : {M : Type 1} → statement M
 zegbiko-count-spec = tie.close (tie.spec count-requires counted-numbers-requires returns)

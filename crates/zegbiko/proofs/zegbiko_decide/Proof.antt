@@ -21,7 +21,7 @@ same-length-2 c = search needs
 returns : tie.Need-returns
 returns c =
     let answered = c .before .before .before .before .before .decide .ensures in
-    (c .decided-numbers .ensures ∙ ap decidedNumbers (answered .0), answered .1)
+    (c .decided-numbers .ensures ∙ ap decidedNumbers (answered .0), answered .1 .1)
 
 pub zegbiko-decide-spec : {M : Type 1} → statement M
 zegbiko-decide-spec = tie.close (tie.spec decide-requires decided-numbers-requires same-length same-length-2 returns)

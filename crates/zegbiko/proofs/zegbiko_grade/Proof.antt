@@ -13,7 +13,7 @@ graded-numbers-requires : tie.Need-graded-numbers-requires
 graded-numbers-requires c κs = search needs
 
 returns : tie.Need-returns
-returns c = c .graded-numbers .ensures ∙ ap gradedNumbers (c .before .grade .ensures)
+returns c = c .graded-numbers .ensures ∙ ap gradedNumbers (c .before .grade .ensures .0)
 
 pub zegbiko-grade-spec : {M : Type 1} → statement M
 zegbiko-grade-spec = tie.close (tie.spec grade-requires graded-numbers-requires returns)

@@ -13,7 +13,7 @@ graded-numbers-requires : tie.Need-graded-numbers-requires
 graded-numbers-requires c κs = search needs
 
 returns : tie.Need-returns
-returns c = c .graded-numbers .ensures ∙ ap gradedNumbers (c .before .link .ensures)
+returns c = c .graded-numbers .ensures ∙ ap gradedNumbers (c .before .link .ensures .0)
 
 pub zegbiko-link-spec : {M : Type 1} → statement M
 zegbiko-link-spec = tie.close (tie.spec link-requires graded-numbers-requires returns)

@@ -18,7 +18,7 @@ same-length c = search needs
 returns : tie.Need-returns
 returns c =
     let answered = c .before .before .before .work-out .ensures in
-    (c .worked-numbers .ensures ∙ ap workedNumbers (answered .0), answered .1)
+    (c .worked-numbers .ensures ∙ ap workedNumbers (answered .0), answered .1 .1)
 
 pub zegbiko-work-out-spec : {M : Type 1} → statement M
 zegbiko-work-out-spec = tie.close (tie.spec work-out-requires worked-numbers-requires same-length returns)

@@ -24,7 +24,7 @@ same-length-3 c = search needs
 returns : tie.Need-returns
 returns c =
     let answered = c .before .before .before .before .before .before .before .write-sheet .ensures in
-    (c .written-numbers .ensures ∙ ap writtenNumbers (answered .0), answered .1)
+    (c .written-numbers .ensures ∙ ap writtenNumbers (answered .0), answered .1 .1)
 
 pub zegbiko-write-sheet-spec : {M : Type 1} → statement M
 zegbiko-write-sheet-spec = tie.close (tie.spec write-sheet-requires written-numbers-requires same-length same-length-2 same-length-3 returns)

@@ -28,7 +28,7 @@ enum-known-s : tie.Need-enum-known-s
 enum-known-s c = search needs
 
 decide-requires-2 : tie.Need-decide-requires-2
-decide-requires-2 c κs = opened-accepted _ _ (sym (c .before .before .before .before .before .«open» .ensures) ∙ c .before .before .before .s .given .1)
+decide-requires-2 c κs = opened-accepted _ _ (sym (c .before .before .before .before .before .«open» .ensures .0) ∙ c .before .before .before .s .given .1)
 
 returns-2 : tie.Need-returns-2
 returns-2 c = search needs

@@ -38,8 +38,8 @@ use denote.Exit.{yes}
 use denote.Signature.{namedLft}
 use denote.Triple.Clauses.{ensured, lasts}
 use Rattle.book.specs.Opening.{Right}
-use Rattle.book.proofs.Sections as P
-use Rattle.book.proofs.Sections.Laws as P′
+use Rattle.layout.proofs.Sections as P
+use Rattle.layout.proofs.Sections.Laws as P′
 use Rattle.counter.specs.Counting.{countedOf}
 use Rattle.counter.specs.declared.Counted.{Counted}
 use Rattle.counter.proofs.Counted as S

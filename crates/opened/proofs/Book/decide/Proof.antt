@@ -41,11 +41,11 @@ use denote.Signature.{namedLft, plain}
 use denote.Triple.Clauses.{ensured, lasts}
 use Rattle.book.specs.Opening.{Right}
 use Rattle.decider.specs.Deciding.{decisionOf, marksAfter, placementAfter}
-use Rattle.decider.specs.declared.Decision.{Decision}
-use Rattle.decider.proofs.Decision as S
-use Rattle.decider.proofs.Decision.Laws as S′
-use Rattle.book.proofs.Sections as P
-use Rattle.book.proofs.Sections.Laws as P′
+use Rattle.outcomes.specs.declared.Decision.{Decision}
+use Rattle.outcomes.proofs.Decision as S
+use Rattle.outcomes.proofs.Decision.Laws as S′
+use Rattle.layout.proofs.Sections as P
+use Rattle.layout.proofs.Sections.Laws as P′
 use Rattle.opened.specs.declared.Book.{Book}
 use Rattle.opened.proofs.Book as T
 use Rattle.opened.proofs.Book.Laws as T′

@@ -45,8 +45,8 @@ use Rattle.writer.specs.Writing.{writtenOf, sheetAfter}
 use Rattle.writer.specs.declared.Written.{Written}
 use Rattle.writer.proofs.Written as S
 use Rattle.writer.proofs.Written.Laws as S′
-use Rattle.book.proofs.Sections as P
-use Rattle.book.proofs.Sections.Laws as P′
+use Rattle.layout.proofs.Sections as P
+use Rattle.layout.proofs.Sections.Laws as P′
 use Rattle.opened.specs.declared.Book.{Book}
 use Rattle.opened.proofs.Book as T
 use Rattle.opened.proofs.Book.Laws as T′

@@ -1,0 +1,68 @@
+-- `layout::sections_of` meets its contract.
+-- Assumes nothing.
+use borrow.Author.Needs.{needs}
+use Rattle.layout.specs.Layout.{sectionsOf}
+use Rattle.layout.proofs.sections_of.Statement.{statement}
+use Rattle.layout.proofs.sections_of.Tie as tie
+
+word-requires : tie.Need-word-requires
+word-requires c κs = search needs
+
+mul-rules : tie.Need-mul-rules
+mul-rules c = search needs
+
+add-rules : tie.Need-add-rules
+add-rules c = search needs
+
+word-requires-2 : tie.Need-word-requires-2
+word-requires-2 c κs = search needs
+
+mul-memberships : tie.Need-mul-memberships
+mul-memberships c = search needs
+
+add-memberships : tie.Need-add-memberships
+add-memberships c = search needs
+
+word-requires-3 : tie.Need-word-requires-3
+word-requires-3 c κs = search needs
+
+mul-links : tie.Need-mul-links
+mul-links c = search needs
+
+add-links : tie.Need-add-links
+add-links c = search needs
+
+word-requires-4 : tie.Need-word-requires-4
+word-requires-4 c κs = search needs
+
+mul-end : tie.Need-mul-end
+mul-end c = search needs
+
+add-end : tie.Need-add-end
+add-end c = search needs
+
+shared-slice-read-t9 : tie.Need-shared-slice-read-t9
+shared-slice-read-t9 c = search needs
+
+returns : tie.Need-returns
+unfolding sectionsOf
+returns c = simp (c .before .before .before .before .word .ensures .0, c .before .before .before .word2 .ensures .0, c .before .before .word3 .ensures .0, c .before .word4 .ensures .0)
+
+pub sections-of-spec : {M : Type 1} → statement M
+sections-of-spec =
+    tie.close
+    (tie.spec
+    word-requires
+    mul-rules
+    add-rules
+    word-requires-2
+    mul-memberships
+    add-memberships
+    word-requires-3
+    mul-links
+    add-links
+    word-requires-4
+    mul-end
+    add-end
+    shared-slice-read-t9
+    returns)
