@@ -14,7 +14,8 @@ use Rattle.chain.proofs.Search.{below-cases}
 use Rattle.chain.proofs.Lists.{each-at, length-table, getD-table}
 use Rattle.semantics.specs.Interpretations.{Grading, Interpretation, gradeAt}
 use Rattle.semantics.specs.Books.{Rule, MembershipClaim, LinkClaim, Book, claimed?, MeetsRule, MeetsMembership, MeetsLink}
-use Rattle.working.specs.Working.{Broken, judge, orElse, firstBroken, nthRule, nthMembership, ruleVerdictAt, ruleVerdict, membershipVerdict, linkVerdict, rulesVerdict, membershipsVerdict, linksVerdict, verdictBy, verdictOf, FirstFailing, MeetsRuleAt, RulesMet, MembershipsMet, LinksMet, Says}
+use Rattle.working.specs.Working.{Broken, judge, orElse, firstBroken, nthRule, nthMembership, ruleVerdictAt, ruleVerdict, membershipVerdict, linkVerdict, rulesVerdict, membershipsVerdict, linksVerdict, verdictBy, verdictOf}
+use Rattle.working.specs.Working.{FirstFailing, MeetsRuleAt, RulesMet, MembershipsMet, LinksMet, Says}
 use Rattle.working.specs.declared.Verdict.{Verdict}
 use Rattle.working.specs.declared.Verdict.the-variants.{Meets, BreaksRule, BreaksMembership, BreaksLink}
 

@@ -14,6 +14,7 @@ ghost use Rattle.sheets.specs.Layout.{endAt};
 ghost use Rattle.elimination.specs.Marks.{marked};
 ghost use Rattle.placement.specs.Outcome.{survivorsOf, outcome as outcomeOf, placement as placementOf};
 ghost use Rattle.decider.specs.Deciding.{marksAfter, placementAfter, placementIn};
+ghost use Rattle.writer.specs.Held.{HoldsPlacement};
 ghost use Rattle.writer.specs.Writing.{modelBytes, modelQuestions, written, writtenIn, writeQuestions, writtenOf, sheetAfter, writtenNumber};
 use book::Opened;
 use counter::Counted;
@@ -98,7 +99,7 @@ fn write_few(
 ) -> Written
     requires { ⌜ Right (now b) s ⌝ }
     requires { ⌜ (count ≤ 16384) × (count ≤ length (now marks)) × (marked (now marks) count ≡ survivorsOf (bookOf (now b))) ⌝ }
-    requires { ⌜ (16 ≤ length (now placement)) × (outcomeOf (bookOf (now b)) ≡ 1 → placementOf (bookOf (now b)) ≡ some (placementIn (now placement) (individualsOf (bookOf (now b))))) × (outcomeOf (bookOf (now b)) ≡ 1) × (survivors ≡ length (survivorsOf (bookOf (now b)))) × (survivors ≤ 64) ⌝ }
+    requires { ⌜ (16 ≤ length (now placement)) × HoldsPlacement (now b) (now placement) × (outcomeOf (bookOf (now b)) ≡ 1) × (survivors ≡ length (survivorsOf (bookOf (now b)))) × (survivors ≤ 64) ⌝ }
     ensures { λ r. ⌜ r ≡ written (bookOf (now (b .entry))) (firstNo (modelQuestions (bookOf (now (b .entry))) (length (now (sheet .entry))))) ⌝ }
     ensures { λ _. ⌜ now (sheet .exit) ≡ writtenIn (bookOf (now (b .entry))) (firstNo (modelQuestions (bookOf (now (b .entry))) (length (now (sheet .entry))))) (now (sheet .entry)) ⌝ }
 {
@@ -124,7 +125,7 @@ fn write_decided(
 ) -> Written
     requires { ⌜ Right (now b) s ⌝ }
     requires { ⌜ (count ≤ 16384) × (count ≤ length (now marks)) × (marked (now marks) count ≡ survivorsOf (bookOf (now b))) ⌝ }
-    requires { ⌜ (16 ≤ length (now placement)) × (outcomeOf (bookOf (now b)) ≡ 1 → placementOf (bookOf (now b)) ≡ some (placementIn (now placement) (individualsOf (bookOf (now b))))) × (outcome ≡ outcomeOf (bookOf (now b))) × (survivors ≡ length (survivorsOf (bookOf (now b)))) ⌝ }
+    requires { ⌜ (16 ≤ length (now placement)) × HoldsPlacement (now b) (now placement) × (outcome ≡ outcomeOf (bookOf (now b))) × (survivors ≡ length (survivorsOf (bookOf (now b)))) ⌝ }
     ensures { λ r. ⌜ r ≡ written (bookOf (now (b .entry))) (firstNo (modelQuestions (bookOf (now (b .entry))) (length (now (sheet .entry))))) ⌝ }
     ensures { λ _. ⌜ now (sheet .exit) ≡ writtenIn (bookOf (now (b .entry))) (firstNo (modelQuestions (bookOf (now (b .entry))) (length (now (sheet .entry))))) (now (sheet .entry)) ⌝ }
 {

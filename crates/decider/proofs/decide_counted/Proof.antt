@@ -39,7 +39,9 @@ returns-3 : tie.Need-returns-3
 returns-3 c =
     let s = c .before .before .before .before .before .before .before .before .before .before .before .before in
     let e = counted-candidates (s .args .b .now) (s .args .k) (s .pre .1) in
-    let none = decide-none (s .args .b .now) (length (s .args .marks .now)) (length (s .args .placement .now)) (e .0) (omega (arith, c .before .before .before .before .before .before .before .before .if1 .left, e .1)) (omega (arith, c .before .before .before .before .before .before .before .if2 .left)) in
+    let two = c .before .before .before .before .before .before .before in
+    let none = decide-none (s .args .b .now) (length (s .args .marks .now)) (length (s .args .placement .now)) (e .0)
+    (omega (arith, two .before .if1 .left, e .1)) (omega (arith, two .if2 .left)) in
     let u = settled (s .args .b .now) (s .args .marks .now) (s .args .placement .now) none in
     let v = c .before .before .before .before .decide-checked .ensures in
     (v .0 ∙ u .0, (v .1 .0 ∙ u .1 .0, v .1 .1 ∙ u .1 .1))
