@@ -8,7 +8,7 @@ use mathlib.Core.List.{List, [], _∷_, _++_}
 use Prim.Native.Nat.{ℕ, _*_}
 use native.Mathlib.Decide.{decLe}
 use lib.ListN.{length}
-use Rattle.chain.specs.Lists.{table, index}
+use Rattle.chain.specs.Lists.{table}
 use Rattle.chain.specs.Questions.{Question, ask, firstNo}
 use Rattle.semantics.specs.Interpretations.{Interpretation}
 use Rattle.semantics.specs.Books.{individuals}
@@ -16,9 +16,8 @@ use Rattle.types.specs.Candidates.{candidates}
 use Rattle.book.specs.Reading.{bookOf}
 use Rattle.encoding.specs.Words.{wordAt}
 use Rattle.counter.specs.Counting.{candidateQuestions}
-use Rattle.elimination.specs.Listed.{typesIn}
 use Rattle.elimination.specs.Marks.{marked}
-use Rattle.placement.specs.Outcome.{seat, placement}
+use Rattle.placement.specs.Outcome.{placement, placedAmong}
 use Rattle.outcomes.specs.Decided.{decision, markedIn, placedIn}
 use Rattle.outcomes.specs.declared.Decision.{Decision}
 use Rattle.outcomes.specs.declared.Decision.the-variants.{Refused, Decided}
@@ -87,10 +86,6 @@ listedBy b marks = marked marks (candidates (bookOf b .grading))
 abbrev pub placementIn : (buffer : List ℕ) (n : ℕ) → List ℕ
 placementIn buffer n = table (λ j. wordAt buffer (2 * j)) n
 
--- "Their interpretation has one element for each ..; individuals sit as placed": of the types listed and a placement
-abbrev pub placedAs : (b listed placement : List ℕ) → Interpretation
-placedAs b xs p = typesIn (bookOf b .grading) xs (λ j. index xs (seat p j))
-
--- as the two buffers say
+-- "Their interpretation has one element for each ..; individuals sit as placed": of the types and the placement that the two buffers say
 abbrev pub interpretationIn : (b marks buffer : List ℕ) → Interpretation
-interpretationIn b marks buffer = placedAs b (listedBy b marks) (placementIn buffer (individuals (bookOf b)))
+interpretationIn b marks buffer = placedAmong (bookOf b) (listedBy b marks) (placementIn buffer (individuals (bookOf b)))

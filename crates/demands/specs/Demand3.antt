@@ -9,15 +9,16 @@ use mathlib.Core.Option.{some}
 use mathlib.Core.List.{List}
 use Prim.Native.Nat.{ℕ, _*_, _<_}
 use lib.ListN.{length, getD, drop}
-use Rattle.chain.specs.Lists.{Mem, Ascending}
+use Rattle.chain.specs.Lists.{Mem, Each, Ascending}
 use Rattle.semantics.specs.Interpretations.{Grading, Interpretation}
 use Rattle.semantics.specs.Books.{Book, Valid, individuals, RuleModel, MeetsClaims, RulesSatisfiable, Satisfiable}
 use Rattle.types.specs.Candidates.{candidates, gradeIn, HasType, typeOf}
 use Rattle.book.specs.Reading.{bookOf}
+use Rattle.elimination.specs.Survivors.{Sound}
 use Rattle.elimination.specs.Listed.{typesIn, Occurs}
 use Rattle.placement.specs.Dictionary.{Foremost}
-use Rattle.placement.specs.Outcome.{seat, survivorsOf, placement, outcome, placedTypes}
-use Rattle.decider.specs.Deciding.{decisionOf, marksAfter, placementAfter, outcomeIn, survivorsIn, Decidable, CalledUnsatisfiable, listedBy, placementIn, placedAs, interpretationIn}
+use Rattle.placement.specs.Outcome.{seat, survivorsOf, placement, outcome, placedAmong, placedTypes}
+use Rattle.decider.specs.Deciding.{decisionOf, marksAfter, placementAfter, outcomeIn, survivorsIn, Decidable, CalledUnsatisfiable, listedBy, placementIn, interpretationIn}
 use Rattle.outcomes.specs.declared.Decision.{Decision}
 use Rattle.types.proofs.Candidates as Candidates
 use Rattle.elimination.proofs.Survivors as Survivors
@@ -100,10 +101,11 @@ module _ (b marks buffer : List ℕ) (d : Decidable b (length marks) (length buf
   -- "with the strongest links they are an interpretation in which each element has its listed type and which meets every rule": individuals
   -- "as placed or, without a placement, anywhere"
   pub listed-have-their-types : 0 < length listed → (element : ℕ → ℕ) (e : ℕ) → e < length listed → HasType G (typesIn G listed element) e (getD listed e 0)
-  listed-have-their-types = rw listed-is (Listed.listed-has G (B .rules) (w .well-formed))
+  listed-have-their-types = rw listed-is (λ _. Listed.sound-has G (B .rules) (w .well-formed) (survivorsOf B) (Survivors.survivors-sound G (B .rules)))
 
   pub listed-meet-the-rules : 0 < length listed → (element : ℕ → ℕ) → ((j : ℕ) → element j < length listed) → RuleModel G (B .rules) (typesIn G listed element)
-  listed-meet-the-rules = rw listed-is (λ h element. Listed.listed-meets G (B .rules) (w .well-formed) h element (w .rules-in))
+  listed-meet-the-rules =
+      rw listed-is (λ h element. Listed.sound-meets G (B .rules) (w .well-formed) (survivorsOf B) (Survivors.survivors-sound G (B .rules)) element h (w .rules-in))
 
   -- ---- the placement
 
@@ -132,10 +134,31 @@ module _ (b marks buffer : List ℕ) (d : Decidable b (length marks) (length buf
 
     -- the placement that the buffer holds is "the first in dictionary order, individual 0 leading: every other placement at survivors that meets
     -- the claims comes later"
-    pub placement-is-first : Foremost listed (individuals B) (λ p. MeetsClaims B (placedAs b listed p)) (placementIn buffer′ (individuals B))
+    pub placement-is-first : Foremost listed (individuals B) (λ p. MeetsClaims B (placedAmong B listed p)) (placementIn buffer′ (individuals B))
     placement-is-first =
         rw (listed-is, Left.placement-reads b marks buffer d (model .0) (model .1))
         (Outcome.placement-first-met B w (Outcome.outcome-placed B (sym outcome-is ∙ yes-said) .0) (model .0) (model .1))
+
+  -- ---- and beyond: fewer types may do
+
+  -- a sound set is, with the strongest links, an interpretation in which each element has its type, and it lies within what is listed
+  -- (`sound-sets-lie-within` of Types)
+  pub sound-have-their-types : (xs : List ℕ) → Sound G (B .rules) (λ c. Mem c xs) → (element : ℕ → ℕ) (e : ℕ) → e < length xs
+      → HasType G (typesIn G xs element) e (getD xs e 0)
+  sound-have-their-types = Listed.sound-has G (B .rules) (w .well-formed)
+
+  -- one that has the placed types among its members, and at least one member, meets every rule and claim, with the individuals as placed
+  pub sound-meet-rules-and-claims : outcomeIn answer ≡ 1 → (xs : List ℕ) → Sound G (B .rules) (λ c. Mem c xs) → 0 < length xs
+      → Each (λ c. Mem c xs) (placementIn buffer′ (individuals B))
+      → RuleModel G (B .rules) (placedAmong B xs (placementIn buffer′ (individuals B)))
+      × MeetsClaims B (placedAmong B xs (placementIn buffer′ (individuals B)))
+  sound-meet-rules-and-claims yes-said xs s h =
+      let u = Outcome.outcome-placed B (sym outcome-is ∙ yes-said) .1 in
+      rw (Left.placement-reads b marks buffer d (u .0) (u .1))
+      (λ m. (
+        Outcome.placed-rules B w xs s h (u .0) (u .2 .0 .0, m),
+        Outcome.placed-claims B w xs s h (u .0) (u .2 .0 .0, m) (u .2 .1),
+      ))
 
   -- ---- the number and the bytes
 

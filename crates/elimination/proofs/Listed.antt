@@ -1,14 +1,14 @@
--- Theorem B. If any candidate survives, the interpretation of the listed types gives each element its listed type and meets every rule,
--- wherever the individuals sit.
+-- Theorem B. The interpretation of a sound set of candidates gives each element its type and, if the set has a member, meets every rule, wherever
+-- the individuals sit. The survivors are such a set.
 -- Assumes nothing.
 use mathlib.Core.Path.{_≡_, refl, sym, ap, subst, _∙_}
 use mathlib.Core.Logic.{⊎-elim, inl, inr, _↔_}
 use mathlib.Core.List.{List}
 use Prim.Native.Nat.{ℕ, _≤_, _<_}
 use native.Mathlib.Omega.{arith}
-use lib.ListN.{length}
+use lib.ListN.{length, getD}
 use Rattle.chain.specs.Search.{First}
-use Rattle.chain.specs.Lists.{Each}
+use Rattle.chain.specs.Lists.{Mem, Each}
 use Rattle.chain.specs.Connectives.{Quantifier, existential, universal, through, Within, over}
 use Rattle.chain.proofs.Lists.{mem-at, at-mem, each-mem, mem-each}
 use Rattle.chain.proofs.Connectives.{within-antisymm, over-upper, over-least}
@@ -21,67 +21,70 @@ use Rattle.types.specs.Candidates.{gradeIn, named?, bearer, candidates, HasType
 use Rattle.types.specs.Links.{link}
 use Rattle.types.proofs.Candidates.{gradeIn-le, gradeIn-local, gradeIn-name, typeOf-only}
 use Rattle.types.proofs.Links.{link-le, link-bounded}
-use Rattle.elimination.specs.Survivors.{survivors, Survives}
-use Rattle.elimination.specs.Listed.{listed, listedTypes, Occurs}
+use Rattle.elimination.specs.Survivors.{Sound, survivors, Survives}
+use Rattle.elimination.specs.Listed.{typesIn, Occurs}
 use Rattle.elimination.proofs.Survivors.{survivors-sound}
 use Rattle.elimination.proofs.Complete.{complete}
 
-module _ (G : Grading) (rs : List Rule) (w : WellFormed G) (some-left : 0 < length (survivors G rs)) (seat : ℕ → ℕ) where
+-- a sound set, listed in any order
+module _ (G : Grading) (rs : List Rule) (w : WellFormed G) (xs : List ℕ) (sound : Sound G rs (λ c. Mem c xs)) (seat : ℕ → ℕ) where
   abbrev n : ℕ
-  n = length (survivors G rs)
+  n = length xs
 
-  -- a quantified term of a listed type comes to its grade over the listed types: a witness reaches it, and no link passes it
-  listed-quantified : (i : ℕ) → i < length (G .terms) → (e : ℕ) → e < n → (q : Quantifier) (r x : ℕ) → term (G .terms) i ≡ quantified q r x
-      → gradeIn G (listed G rs e) i ≡ over q (G .steps) (λ f. through (G .connectives) q (link G r (listed G rs e) (listed G rs f)) (gradeIn G (listed G rs f) x)) n
-  listed-quantified i l e h q r x t =
-      let c : ℕ = listed G rs e in
-      let f : ℕ → ℕ = λ f. through (G .connectives) q (link G r c (listed G rs f)) (gradeIn G (listed G rs f) x) in
-      let u = survivors-sound G rs .fits c (mem-at (survivors G rs) e 0 h) .1 i l q r x t in
-      let v = at-mem (survivors G rs) 0 (u .0) (u .1) in
+  abbrev at : ℕ → ℕ
+  at e = getD xs e 0
+
+  -- a quantified term of a member comes to its grade over the members: a witness reaches it, and no link passes it
+  sound-quantified : (i : ℕ) → i < length (G .terms) → (e : ℕ) → e < n → (q : Quantifier) (r x : ℕ) → term (G .terms) i ≡ quantified q r x
+      → gradeIn G (at e) i ≡ over q (G .steps) (λ f. through (G .connectives) q (link G r (at e) (at f)) (gradeIn G (at f) x)) n
+  sound-quantified i l e h q r x t =
+      let c : ℕ = at e in
+      let f : ℕ → ℕ = λ f. through (G .connectives) q (link G r c (at f)) (gradeIn G (at f) x) in
+      let u = sound .fits c (mem-at xs e 0 h) .1 i l q r x t in
+      let v = at-mem xs 0 (u .0) (u .1) in
       within-antisymm q
       (subst (λ (y : ℕ). Within q y (over q (G .steps) f n))
       (ap (λ (d : ℕ). through (G .connectives) q (link G r c d) (gradeIn G d x)) (v .2) ∙ sym (u .2))
       (over-upper q (G .steps) f n (v .0) (v .1)))
-      (over-least q (G .steps) f n (gradeIn G c i) (gradeIn-le G w c i l) (λ g k. link-bounded G r c (listed G rs g) w i l q x t))
+      (over-least q (G .steps) f n (gradeIn G c i) (gradeIn-le G w c i l) (λ g k. link-bounded G r c (at g) w i l q x t))
 
-  -- THEOREM B: each element has its listed type
-  pub listed-has : (e : ℕ) → e < n → HasType G (listedTypes G rs seat) e (listed G rs e)
-  listed-has e h i l =
-      sym (gradeAt-unique G (listedTypes G rs seat) w (λ j f. gradeIn G (listed G rs f) j) (λ j k f g. go j k f g (term (G .terms) j) refl) i l e h)
+  -- THEOREM B: each element has its type
+  pub sound-has : (e : ℕ) → e < n → HasType G (typesIn G xs seat) e (at e)
+  sound-has e h i l =
+      sym (gradeAt-unique G (typesIn G xs seat) w (λ j f. gradeIn G (at f) j) (λ j k f g. go j k f g (term (G .terms) j) refl) i l e h)
     where
       go : (i : ℕ) → i < length (G .terms) → (e : ℕ) → e < n → (t : Term) → term (G .terms) i ≡ t
-          → gradeIn G (listed G rs e) i ≡ local (atElements G (listedTypes G rs seat)) i t (λ j f. gradeIn G (listed G rs f) j) e
-      go i l e h (name a) t = gradeIn-name G w (listed G rs e) i a l t
-      go i l e h (not x) t = gradeIn-local G w (listed G rs e) i l (not x) t
-      go i l e h (and x y) t = gradeIn-local G w (listed G rs e) i l (and x y) t
-      go i l e h (or x y) t = gradeIn-local G w (listed G rs e) i l (or x y) t
-      go i l e h (some r x) t = listed-quantified i l e h existential r x t
-      go i l e h (all r x) t = listed-quantified i l e h universal r x t
-      go i l e h top t = gradeIn-local G w (listed G rs e) i l top t
-      go i l e h bottom t = gradeIn-local G w (listed G rs e) i l bottom t
+          → gradeIn G (at e) i ≡ local (atElements G (typesIn G xs seat)) i t (λ j f. gradeIn G (at f) j) e
+      go i l e h (name a) t = gradeIn-name G w (at e) i a l t
+      go i l e h (not x) t = gradeIn-local G w (at e) i l (not x) t
+      go i l e h (and x y) t = gradeIn-local G w (at e) i l (and x y) t
+      go i l e h (or x y) t = gradeIn-local G w (at e) i l (or x y) t
+      go i l e h (some r x) t = sound-quantified i l e h existential r x t
+      go i l e h (all r x) t = sound-quantified i l e h universal r x t
+      go i l e h top t = gradeIn-local G w (at e) i l top t
+      go i l e h bottom t = gradeIn-local G w (at e) i l bottom t
 
-  module _ (in-range : Each (RuleInRange G) rs) (seated : (j : ℕ) → seat j < n) where
-    listed-on-chain : OnChain (G .steps) (listedTypes G rs seat)
-    listed-on-chain = record {
+  module _ (some-left : 0 < n) (in-range : Each (RuleInRange G) rs) (seated : (j : ℕ) → seat j < n) where
+    sound-on-chain : OnChain (G .steps) (typesIn G xs seat)
+    sound-on-chain = record {
       inhabited = some-left;
       names-le = λ a e h. go e (bearer (G .terms) a);
-      links-le = λ r e f g h. link-le G r (listed G rs e) (listed G rs f);
+      links-le = λ r e f g h. link-le G r (at e) (at f);
       element-lt = seated;
     }
       where
-        go : (e : ℕ) {a : ℕ} (v : First (named? (G .terms) a) (length (G .terms))) → ⊎-elim (λ u. gradeIn G (listed G rs e) (u .0)) (λ _. 0) v ≤ G .steps
-        go e (inl u) = gradeIn-le G w (listed G rs e) (u .0) (u .1)
+        go : (e : ℕ) {a : ℕ} (v : First (named? (G .terms) a) (length (G .terms))) → ⊎-elim (λ u. gradeIn G (at e) (u .0)) (λ _. 0) v ≤ G .steps
+        go e (inl u) = gradeIn-le G w (at e) (u .0) (u .1)
         go e (inr f) = omega arith
 
     -- .. and the interpretation meets every rule
-    pub listed-meets : RuleModel G rs (listedTypes G rs seat)
-    listed-meets = record {
-      on-chain = listed-on-chain;
+    pub sound-meets : RuleModel G rs (typesIn G xs seat)
+    sound-meets = record {
+      on-chain = sound-on-chain;
       rules-met = mem-each rs (λ q m e h.
           let k = each-mem (RuleInRange G) rs in-range q m in
-          rw (listed-has e h (q .left) (k .0), listed-has e h (q .right) (k .1))
-          (each-mem (λ o. gradeIn G (listed G rs e) (o .left) ≤ gradeIn G (listed G rs e) (o .right)) rs
-          (survivors-sound G rs .fits (listed G rs e) (mem-at (survivors G rs) e 0 h) .0) q m));
+          rw (sound-has e h (q .left) (k .0), sound-has e h (q .right) (k .1))
+          (each-mem (λ o. gradeIn G (at e) (o .left) ≤ gradeIn G (at e) (o .right)) rs (sound .fits (at e) (mem-at xs e 0 h) .0) q m));
     }
 
 -- ---- with Theorem A: the survivors are exactly the types that an element has in some model of the rules
@@ -91,7 +94,16 @@ survives-realised G rs w in-range c = (
   λ m.
       let u = at-mem (survivors G rs) 0 c m in
       let h : 0 < length (survivors G rs) = omega (arith, u .1) in
-      let I = listedTypes G rs (λ _. 0) in
-      (survivors-sound G rs .candidate c m, (I, listed-meets G rs w h (λ _. 0) in-range (λ _. h), u .0, u .1, subst (HasType G I (u .0)) (u .2) (listed-has G rs w h (λ _. 0) (u .0) (u .1)))),
+      let I = typesIn G (survivors G rs) (λ _. 0) in
+      let s = survivors-sound G rs in (
+        s .candidate c m,
+        (
+          I,
+          sound-meets G rs w (survivors G rs) s (λ _. 0) h in-range (λ _. h),
+          u .0,
+          u .1,
+          subst (HasType G I (u .0)) (u .2) (sound-has G rs w (survivors G rs) s (λ _. 0) (u .0) (u .1)),
+        ),
+      ),
   λ (l, (I, m, e, h, t)). subst (Survives G rs) (sym (typeOf-only G w I (m .on-chain) e h c l t)) (complete G rs w in-range I m e h),
 )

@@ -8,7 +8,6 @@ use Rattle.semantics.specs.Interpretations.{Grading, Interpretation}
 use Rattle.semantics.specs.Books.{Rule, RuleModel}
 use Rattle.types.specs.Candidates.{bearer, gradeIn, HasType}
 use Rattle.types.specs.Links.{link}
-use Rattle.elimination.specs.Survivors.{survivors}
 
 -- "Their interpretation has one element for each, its names graded as in the type (0 for a name that no term uses), and for each role the links
 -- above": of the candidates in xs; the individuals sit as `seat` says
@@ -20,15 +19,6 @@ typesIn G xs seat = record {
   element = seat;
 }
 
-module _ (G : Grading) (rs : List Rule) where
-  -- the e-th survivor, e from 0
-  abbrev pub listed : ℕ → ℕ
-  listed e = getD (survivors G rs) e 0
-
-  -- the interpretation of the listed types
-  abbrev pub listedTypes : (seat : ℕ → ℕ) → Interpretation
-  listedTypes = typesIn G (survivors G rs)
-
-  -- an element has candidate c's type in some finite interpretation on the chain that meets the rules
-  abbrev pub Occurs : (c : ℕ) → Type 0
-  Occurs c = (I : Interpretation) × RuleModel G rs I × (e : ℕ) × (e < I .size) × HasType G I e c
+-- an element has candidate c's type in some finite interpretation on the chain that meets the rules
+abbrev pub Occurs : Grading → List Rule → (c : ℕ) → Type 0
+Occurs G rs c = (I : Interpretation) × RuleModel G rs I × (e : ℕ) × (e < I .size) × HasType G I e c

@@ -8,20 +8,20 @@ use mathlib.Core.List.{List, [], _∷_}
 use Prim.Native.Nat.{ℕ, _≤_, _<_}
 use native.Mathlib.Nat.{le-trans}
 use native.Mathlib.Omega.{arith}
-use lib.ListN.{length}
-use Rattle.chain.specs.Lists.{Each, Ascending, table, index}
+use lib.ListN.{length, getD}
+use Rattle.chain.specs.Lists.{Mem, Each, Ascending, table, index}
 use Rattle.chain.proofs.Lists.{mem-at, at-mem, each-mem, each-map₂, each-map₃, length-table, getD-table, each-table, each-highest, index-lt, at-index}
 use Rattle.semantics.specs.Interpretations.{Grading, Interpretation, gradeAt}
 use Rattle.semantics.specs.Books.{Book, MembershipClaim, TermInRange, membershipIndividuals, linkIndividuals, individuals, Valid, MeetsMembership, MeetsLink, RuleModel, MeetsClaims, RulesSatisfiable, Satisfiable}
 use Rattle.types.specs.Candidates.{gradeIn, typeOf}
 use Rattle.types.proofs.Candidates.{typeOf-has}
-use Rattle.elimination.specs.Survivors.{Survives}
-use Rattle.elimination.specs.Listed.{listed, listedTypes}
-use Rattle.elimination.proofs.Survivors.{survivors-ascending}
+use Rattle.elimination.specs.Survivors.{Sound, Survives}
+use Rattle.elimination.specs.Listed.{typesIn}
+use Rattle.elimination.proofs.Survivors.{survivors-ascending, survivors-sound}
 use Rattle.elimination.proofs.Complete.{complete, link-of-types}
-use Rattle.elimination.proofs.Listed.{listed-has, listed-meets}
+use Rattle.elimination.proofs.Listed.{sound-has, sound-meets}
 use Rattle.placement.specs.Dictionary.{Drawn, Foremost, Nowhere, Finds}
-use Rattle.placement.specs.Outcome.{seat, survivorsOf, HoldsMembership, HoldsLink, HoldsAt, Unmentioned, holds?, placementAmong, placement, outcomeOf, outcome, placedTypes, seatedAs}
+use Rattle.placement.specs.Outcome.{seat, survivorsOf, HoldsMembership, HoldsLink, HoldsAt, Unmentioned, holds?, placementAmong, placement, outcomeOf, outcome, placedAmong, placedTypes, seatedAs}
 use Rattle.placement.proofs.Dictionary.{seek-finds}
 
 module _ (B : Book) where
@@ -73,7 +73,10 @@ module _ (B : Book) where
     pub rules-satisfiable : RulesSatisfiable B ↔ (0 < length (survivorsOf B))
     rules-satisfiable = (
       λ m. omega (arith, at-mem (survivorsOf B) 0 (typeOf G (m .0) 0) (complete G (B .rules) (w .well-formed) (w .rules-in) (m .0) (m .1) 0 (m .1 .on-chain .inhabited)) .1),
-      λ h. (listedTypes G (B .rules) (λ _. 0), listed-meets G (B .rules) (w .well-formed) h (λ _. 0) (w .rules-in) (λ _. h)),
+      λ h. (
+        typesIn G (survivorsOf B) (λ _. 0),
+        sound-meets G (B .rules) (w .well-formed) (survivorsOf B) (survivors-sound G (B .rules)) (λ _. 0) h (w .rules-in) (λ _. h),
+      ),
     )
 
     -- from a model: each individual at the type of its element
@@ -98,60 +101,67 @@ module _ (B : Book) where
           ),
         )
 
-    -- and back: each individual at the element of its type
-    module _ (h : 0 < length (survivorsOf B)) (p : List ℕ) (v : Drawn (survivorsOf B) (individuals B) p) where
+    -- and back, among the members of any sound set: each individual at the element of its type
+    module _ (xs : List ℕ) (sound : Sound G (B .rules) (λ c. Mem c xs)) (h : 0 < length xs) (p : List ℕ) (v : Drawn xs (individuals B) p) where
       abbrev at : ℕ → ℕ
-      at j = index (survivorsOf B) (seat p j)
+      at j = index xs (seat p j)
 
-      seated : (j : ℕ) → at j < length (survivorsOf B)
-      seated j = index-lt (survivorsOf B) (seat p j) h
+      seated : (j : ℕ) → at j < length xs
+      seated j = index-lt xs (seat p j) h
 
       -- individual j sits at its placed type
-      pub placed-seat : (j : ℕ) → j < individuals B → listed G (B .rules) (at j) ≡ seat p j
-      placed-seat j u = at-index (survivorsOf B) (seat p j) (each-mem (Survives G (B .rules)) p (v .1) (seat p j) (mem-at p j 0 (omega (arith, v .0))))
+      pub placed-seat : (j : ℕ) → j < individuals B → getD xs (at j) 0 ≡ seat p j
+      placed-seat j u = at-index xs (seat p j) (each-mem (λ c. Mem c xs) p (v .1) (seat p j) (mem-at p j 0 (omega (arith, v .0))))
 
       -- what a term is graded there
       grade-there : (q : MembershipClaim) → TermInRange G q → membershipIndividuals q ≤ individuals B
-          → gradeAt G (placedTypes B p) (q .term) (at (q .individual)) ≡ gradeIn G (seat p (q .individual)) (q .term)
+          → gradeAt G (placedAmong B xs p) (q .term) (at (q .individual)) ≡ gradeIn G (seat p (q .individual)) (q .term)
       grade-there q t u =
-          listed-has G (B .rules) (w .well-formed) h at (at (q .individual)) (seated (q .individual)) (q .term) t
+          sound-has G (B .rules) (w .well-formed) xs sound at (at (q .individual)) (seated (q .individual)) (q .term) t
           ∙ ap (λ (c : ℕ). gradeIn G c (q .term)) (placed-seat (q .individual) u)
 
       -- the claims hold of the placement if and only if the types' interpretation meets them
-      pub placed-claims : HoldsAt B p → MeetsClaims B (placedTypes B p)
+      pub placed-claims : HoldsAt B p → MeetsClaims B (placedAmong B xs p)
       placed-claims v = record {
-        memberships-met = each-map₃ {R = HoldsMembership B (seat p)} {S = MeetsMembership G (placedTypes B p)} (λ q t u g. rw (grade-there q t u) g)
+        memberships-met = each-map₃ {R = HoldsMembership B (seat p)} {S = MeetsMembership G (placedAmong B xs p)} (λ q t u g. rw (grade-there q t u) g)
             (B .memberships) (w .terms-in) members-in (v .0);
-        links-met = each-map₂ {Q = HoldsLink B (seat p)} {R = MeetsLink (placedTypes B p)} (λ q u g.
+        links-met = each-map₂ {Q = HoldsLink B (seat p)} {R = MeetsLink (placedAmong B xs p)} (λ q u g.
             rw (placed-seat (q .source) (omega arith), placed-seat (q .target) (omega arith)) g) (B .links) links-in (v .1);
       }
 
-      pub claims-placed : MeetsClaims B (placedTypes B p) → HoldsAt B p
+      pub claims-placed : MeetsClaims B (placedAmong B xs p) → HoldsAt B p
       claims-placed m = (
-        each-map₃ {R = MeetsMembership G (placedTypes B p)} {S = HoldsMembership B (seat p)} (λ q t u g. rw (← grade-there q t u) g)
+        each-map₃ {R = MeetsMembership G (placedAmong B xs p)} {S = HoldsMembership B (seat p)} (λ q t u g. rw (← grade-there q t u) g)
             (B .memberships) (w .terms-in) members-in (m .memberships-met),
-        each-map₂ {Q = MeetsLink (placedTypes B p)} {R = HoldsLink B (seat p)} (λ q u g.
+        each-map₂ {Q = MeetsLink (placedAmong B xs p)} {R = HoldsLink B (seat p)} (λ q u g.
             rw (← placed-seat (q .source) (omega arith), ← placed-seat (q .target) (omega arith)) g) (B .links) links-in (m .links-met),
       )
 
-      pub placed-rules : RuleModel G (B .rules) (placedTypes B p)
-      placed-rules = listed-meets G (B .rules) (w .well-formed) h at (w .rules-in) seated
+      pub placed-rules : RuleModel G (B .rules) (placedAmong B xs p)
+      placed-rules = sound-meets G (B .rules) (w .well-formed) xs sound at h (w .rules-in) seated
+
+    survivors-are-sound : Sound G (B .rules) (λ c. Mem c (survivorsOf B))
+    survivors-are-sound = survivors-sound G (B .rules)
 
     -- outcome 1: the listed types, with the individuals as placed, meet everything
     pub outcome-model : outcome B ≡ 1 → (p : List ℕ) × (placement B ≡ some p) × RuleModel G (B .rules) (placedTypes B p) × MeetsClaims B (placedTypes B p)
-        × ((j : ℕ) → j < individuals B → listed G (B .rules) (placedTypes B p .element j) ≡ seat p j)
+        × ((j : ℕ) → j < individuals B → getD (survivorsOf B) (placedTypes B p .element j) 0 ≡ seat p j)
     outcome-model e =
         let u = outcome-placed e in
         let p = u .1 .0 in
         let v = u .1 .2 in
-        (p, u .1 .1, placed-rules (u .0) p (v .0), placed-claims (u .0) p (v .0) (v .1), placed-seat (u .0) p (v .0))
+        let xs = survivorsOf B in
+        let s = survivors-are-sound in
+        (p, u .1 .1, placed-rules xs s (u .0) p (v .0), placed-claims xs s (u .0) p (v .0) (v .1), placed-seat xs s (u .0) p (v .0))
 
     -- the placement is the first with which the types' interpretation meets the claims
     pub placement-first-met : 0 < length (survivorsOf B) → (p : List ℕ) → placement B ≡ some p
         → Foremost (survivorsOf B) (individuals B) (λ q. MeetsClaims B (placedTypes B q)) p
     placement-first-met h p e =
         let f = placement-first p e in
-        record { drawn = f .drawn; passes = placed-claims h p (f .drawn) (f .passes); foremost = λ q d m. f .foremost q d (claims-placed h q d m) }
+        let xs = survivorsOf B in
+        let s = survivors-are-sound in
+        record { drawn = f .drawn; passes = placed-claims xs s h p (f .drawn) (f .passes); foremost = λ q d m. f .foremost q d (claims-placed xs s h q d m) }
 
     -- THEOREM C: the outcome says which of three is the case
     abbrev pub OutcomeSays : ℕ → Type 0
@@ -167,7 +177,14 @@ module _ (B : Book) where
         go (c ∷ cs) e (some p) f =
             let h : 0 < length (survivorsOf B) = omega (arith, ap length e) in
             let v : Placed p = (f .drawn, f .passes) in
-            inl (refl, (placedTypes B p, placed-rules h p (v .0), placed-claims h p (v .0) (v .1)))
+            inl (
+              refl,
+              (
+                placedTypes B p,
+                placed-rules (survivorsOf B) survivors-are-sound h p (v .0),
+                placed-claims (survivorsOf B) survivors-are-sound h p (v .0) (v .1),
+              ),
+            )
 
     pub outcome-1 : (outcome B ≡ 1) ↔ Satisfiable B
     outcome-1 = go (outcome B) verdict

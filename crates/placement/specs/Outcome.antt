@@ -14,7 +14,7 @@ use Rattle.semantics.specs.Books.{Book, MembershipClaim, LinkClaim, Claimed, cl
 use Rattle.types.specs.Candidates.{gradeIn}
 use Rattle.types.specs.Links.{link}
 use Rattle.elimination.specs.Survivors.{survivors}
-use Rattle.elimination.specs.Listed.{listedTypes}
+use Rattle.elimination.specs.Listed.{typesIn}
 use Rattle.placement.specs.Dictionary.{seek}
 
 -- the candidate at which a placement has individual j
@@ -76,9 +76,13 @@ module _ (B : Book) where
   unfoldable pub outcome : ℕ
   outcome = outcomeOf survivorsOf placement
 
-  -- the interpretation of the listed types, with the individuals as placed
+  -- "individuals sit as placed": the interpretation of the candidates in xs, with the individuals at those in p
+  abbrev pub placedAmong : (xs p : List ℕ) → Interpretation
+  placedAmong xs p = typesIn (B .grading) xs (λ j. index xs (seat p j))
+
+  -- of the listed types
   abbrev pub placedTypes : List ℕ → Interpretation
-  placedTypes p = listedTypes (B .grading) (B .rules) (λ j. index survivorsOf (seat p j))
+  placedTypes = placedAmong survivorsOf
 
 -- an interpretation with the individuals seated otherwise
 abbrev pub seatedAs : Interpretation → (ℕ → ℕ) → Interpretation
