@@ -24,6 +24,10 @@
 extern "C" {
 #endif
 
+/* ---- The version, also that of the Rust wrapper and the manual page; docs/USING.md, "Versions", says what it promises */
+
+#define ZEGBIKO_VERSION "1.0.0"
+
 /* ---- Sizes in bytes; the buffers of these sizes suffice for every book */
 
 #define ZEGBIKO_BOOK_LEAST 18  /* the shortest book */
@@ -33,35 +37,65 @@ extern "C" {
 #define ZEGBIKO_SHEET 33812    /* the longest sheet: 12 + 64 * 16 + 8 * 64 * 64 + 8 */
 #define ZEGBIKO_GRID 4096      /* the largest grid: 64 elements times 64 terms */
 
-/* ---- Refusal numbers, each with its question (docs/NUMBERS.md) */
+/* ---- Refusal numbers; zegbiko_refusal_text says what each means, docs/NUMBERS.md what usually causes it */
 
 /* every call, in this order */
-#define ZEGBIKO_REFUSED_BOOK_LENGTH 1       /* is the book 18 to 850 bytes long? */
-#define ZEGBIKO_REFUSED_EDITION 2           /* is byte 0 equal to 1? */
-#define ZEGBIKO_REFUSED_STEPS 3             /* is N 1 to 8? */
-#define ZEGBIKO_REFUSED_COUNTS 4            /* is each of the four counts at most 64? */
-#define ZEGBIKO_REFUSED_LAYOUT 5            /* do the four offsets and the length agree with the layout? */
-#define ZEGBIKO_REFUSED_TERMS 6             /* is every term as described, and does no name stand twice? */
-#define ZEGBIKO_REFUSED_RULES 7             /* does every rule name two terms? */
-#define ZEGBIKO_REFUSED_MEMBERSHIP_CLAIMS 8 /* is every membership claim within its ranges, grade at most N? */
-#define ZEGBIKO_REFUSED_LINK_CLAIMS 9       /* is every link claim within its ranges, grade at most N? */
+#define ZEGBIKO_REFUSED_BOOK_LENGTH 1
+#define ZEGBIKO_REFUSED_EDITION 2
+#define ZEGBIKO_REFUSED_STEPS 3
+#define ZEGBIKO_REFUSED_COUNTS 4
+#define ZEGBIKO_REFUSED_LAYOUT 5
+#define ZEGBIKO_REFUSED_TERMS 6
+#define ZEGBIKO_REFUSED_RULES 7
+#define ZEGBIKO_REFUSED_MEMBERSHIP_CLAIMS 8
+#define ZEGBIKO_REFUSED_LINK_CLAIMS 9
 /* every call but zegbiko_check and zegbiko_work_out, after 9 */
-#define ZEGBIKO_REFUSED_CANDIDATES 10       /* are there at most 16,384 candidates? */
+#define ZEGBIKO_REFUSED_CANDIDATES 10
 /* zegbiko_decide and zegbiko_write_sheet, after 10 */
-#define ZEGBIKO_REFUSED_MARKS 11            /* has the marks buffer a byte for each candidate? */
-#define ZEGBIKO_REFUSED_PLACEMENT 12        /* has the placement buffer 16 bytes? */
+#define ZEGBIKO_REFUSED_MARKS 11
+#define ZEGBIKO_REFUSED_PLACEMENT 12
 /* zegbiko_work_out, after 9 */
-#define ZEGBIKO_REFUSED_SHEET_HEAD 13       /* has the sheet 12 bytes, byte 0 equal to 1, the book's N, n of 1 to 64, the book's A, R, I? */
-#define ZEGBIKO_REFUSED_SHEET_LAYOUT 14     /* do the sheet's three offsets and its length agree with the layout? */
-#define ZEGBIKO_REFUSED_SHEET_ENTRIES 15    /* is every grade at most N, and every individual's element below n? */
-#define ZEGBIKO_REFUSED_GRID 16             /* has the grid buffer n times the term count? */
+#define ZEGBIKO_REFUSED_SHEET_HEAD 13
+#define ZEGBIKO_REFUSED_SHEET_LAYOUT 14
+#define ZEGBIKO_REFUSED_SHEET_ENTRIES 15
+#define ZEGBIKO_REFUSED_GRID 16
 /* zegbiko_write_sheet, after 12 and deciding */
-#define ZEGBIKO_REFUSED_OUTCOME 17          /* is the outcome 1? */
-#define ZEGBIKO_REFUSED_SURVIVORS 18        /* are there at most 64 survivors? */
-#define ZEGBIKO_REFUSED_SHEET_BUFFER 19     /* is the sheet buffer long enough? */
+#define ZEGBIKO_REFUSED_OUTCOME 17
+#define ZEGBIKO_REFUSED_SURVIVORS 18
+#define ZEGBIKO_REFUSED_SHEET_BUFFER 19
 /* zegbiko_grade and zegbiko_link, after 10 */
-#define ZEGBIKO_REFUSED_CANDIDATE 20        /* is each candidate number below the count? */
-#define ZEGBIKO_REFUSED_TERM_OR_ROLE 21     /* is the term, or the role (0 to 7), in range? */
+#define ZEGBIKO_REFUSED_CANDIDATE 20
+#define ZEGBIKO_REFUSED_TERM_OR_ROLE 21
+
+/* What a refusal number says, for a message to people. */
+static inline const char *zegbiko_refusal_text(uint8_t refusal) {
+    switch (refusal) {
+    case 0: return "not refused";
+    case ZEGBIKO_REFUSED_BOOK_LENGTH: return "the book is not 18 to 850 bytes long";
+    case ZEGBIKO_REFUSED_EDITION: return "the edition, byte 0, is not 1";
+    case ZEGBIKO_REFUSED_STEPS: return "N, byte 1, is not 1 to 8";
+    case ZEGBIKO_REFUSED_COUNTS: return "a count of terms, rules or claims is above 64";
+    case ZEGBIKO_REFUSED_LAYOUT: return "an offset or the length disagrees with the layout";
+    case ZEGBIKO_REFUSED_TERMS: return "a term is not as described, or a name stands in two terms";
+    case ZEGBIKO_REFUSED_RULES: return "a rule names a term that the book does not have";
+    case ZEGBIKO_REFUSED_MEMBERSHIP_CLAIMS: return "a membership claim is out of range, or its grade is above N";
+    case ZEGBIKO_REFUSED_LINK_CLAIMS: return "a link claim is out of range, or its grade is above N";
+    case ZEGBIKO_REFUSED_CANDIDATES: return "there are more than 16,384 candidates";
+    case ZEGBIKO_REFUSED_MARKS: return "the marks buffer has fewer bytes than there are candidates";
+    case ZEGBIKO_REFUSED_PLACEMENT: return "the placement buffer has fewer than 16 bytes";
+    case ZEGBIKO_REFUSED_SHEET_HEAD:
+        return "the sheet has fewer than 12 bytes, byte 0 is not 1, n is not 1 to 64, or N, A, R or I are not the book's";
+    case ZEGBIKO_REFUSED_SHEET_LAYOUT: return "an offset or the length of the sheet disagrees with the layout";
+    case ZEGBIKO_REFUSED_SHEET_ENTRIES: return "a grade on the sheet is above N, or an individual's element is not below n";
+    case ZEGBIKO_REFUSED_GRID: return "the grid buffer has fewer bytes than n times the term count";
+    case ZEGBIKO_REFUSED_OUTCOME: return "the outcome is not 1";
+    case ZEGBIKO_REFUSED_SURVIVORS: return "there are more than 64 survivors";
+    case ZEGBIKO_REFUSED_SHEET_BUFFER: return "the sheet buffer is too short for the sheet";
+    case ZEGBIKO_REFUSED_CANDIDATE: return "a candidate number is not below the number of candidates";
+    case ZEGBIKO_REFUSED_TERM_OR_ROLE: return "the term, or the role, is out of range";
+    default: return "no refusal number";
+    }
+}
 
 /* ---- Outcomes of deciding */
 
@@ -132,17 +166,34 @@ zegbiko_written zegbiko_write_sheet(const uint8_t *book, size_t book_length, uin
                                     uint8_t *placement, size_t placement_length, uint8_t *sheet, size_t sheet_length);
 
 /*
- * Works out a sheet on a book, after 1 to 9 and 13 to 16: whether it meets the book's rules and claims, or which is the first broken.
+ * Works out a sheet on a book, after 1 to 9 and 13 to 16: whether it meets the book's rules and claims, or which is broken first.
  * The first n times the term count bytes of the grid are set, element by element, to the grades of all terms at the element; the
  * bytes past them are kept.
  */
 zegbiko_worked zegbiko_work_out(const uint8_t *book, size_t book_length, const uint8_t *sheet, size_t sheet_length, uint8_t *grid,
                                 size_t grid_length);
 
-/* The grade of a term in a candidate, after 1 to 10, 20 and 21. */
+/*
+ * The grade of a term in a candidate, after 1 to 10, 20 and 21.
+ *
+ * A candidate gives each term a grade. Those of names and of "some" and "all" terms (the kinds 0, 4 and 5), in the terms' order, are
+ * the digits of the candidate's number in base N + 1, lowest first; those of the other terms follow from their children's.
+ */
 zegbiko_graded zegbiko_grade(const uint8_t *book, size_t book_length, size_t candidate, size_t term);
 
-/* The link from one candidate to another for a role, after 1 to 10, 20 and 21. */
+/*
+ * The link from one candidate to another for a role, after 1 to 10, 20 and 21: the strongest that their grades allow. It is the
+ * greatest r of 0 to N such that
+ *   - for each "all" term of the role, max(N - r, the child's grade in `to`) is at least the term's grade in `from`, and
+ *   - for each "some" term of the role, min(r, the child's grade in `to`) is at most the term's grade in `from`.
+ * Where no term has the role, it is N. No interpretation has a stronger link between elements of these two types.
+ *
+ * With this link r, `to` is a witness of a quantified term in `from` when the term takes just its grade from it: "all" when
+ * max(N - r, the child's grade in `to`) equals the term's grade in `from`, "some" when min(r, the child's grade in `to`) does. A link of
+ * 0 can do that too. Each quantified term of a survivor has a witness among the survivors. A set of survivors that has a witness for
+ * each quantified term of each member is, with these links, an interpretation in which each member has its grades; docs/USING.md makes
+ * a sheet of such a set ("A model that fits on a sheet").
+ */
 zegbiko_graded zegbiko_link(const uint8_t *book, size_t book_length, uint8_t role, size_t from, size_t to);
 
 #ifdef __cplusplus

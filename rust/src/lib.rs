@@ -5,8 +5,9 @@
 //! for 17 to 19, which come after deciding. Buffers of [`MARKS`], [`PLACEMENT`], [`SHEET`] and [`GRID`] bytes suffice for
 //! every book.
 //!
-//! No call keeps anything for a later one, and none uses the heap. [`decide`] and [`write_sheet`] need some 1.2 MB of
-//! stack: a thread with Rust's default of 2 MB suffices, one of 1 MB does not. The others need a few KB.
+//! No call keeps anything for a later one, so all may be made from several threads at once. None uses the heap, but for
+//! [`Decision::of`]. [`decide`] and [`write_sheet`] need some 1.2 MB of stack: a thread with Rust's default of 2 MB
+//! suffices, one of 1 MB does not. The others need a few KB.
 //!
 //! The book printed in the specification grades A and "not A" alike, on two steps, and claims A at least 1 of individual 0:
 //!
@@ -28,6 +29,9 @@
 //! assert_eq!(placement[..2], [0, 1]); // and individual 0 is placed there
 //! assert_eq!(zegbiko::grade(&book, 1, 0), Ok(1));
 //!
+//! let decision = zegbiko::Decision::of(&book)?; // the same, with buffers of its own
+//! assert!(decision.listed().eq([1]) && decision.placed().eq([1]));
+//!
 //! let mut sheet = [0; zegbiko::SHEET];
 //! let length = zegbiko::write_sheet(&book, &mut marks, &mut placement, &mut sheet)?;
 //! let mut grid = [0; zegbiko::GRID];
@@ -39,6 +43,8 @@
 use std::error::Error;
 use std::fmt;
 
+/// The version, of header, wrapper and manual page alike; `docs/USING.md`, "Versions", says what it promises.
+pub const VERSION: &str = "1.0.0";
 /// The bytes of the shortest book.
 pub const BOOK_LEAST: usize = 18;
 /// The bytes of the longest book.
@@ -53,12 +59,13 @@ pub const SHEET: usize = 33812;
 pub const GRID: usize = 4096;
 
 macro_rules! refusals {
-    ($($name:ident = $number:literal, $question:literal;)*) => {
-        /// The first check that said no, with its number; `docs/NUMBERS.md` says which call asks what, and when.
+    ($($name:ident = $number:literal, $question:literal, $statement:literal;)*) => {
+        /// The first check that said no, with its number; `docs/NUMBERS.md` says which call asks what, when, and what
+        /// usually causes a refusal.
         #[derive(Clone, Copy, Debug, PartialEq, Eq, Hash)]
         #[repr(u8)]
         pub enum Refusal {
-            $(#[doc = $question] $name = $number,)*
+            $(#[doc = $statement] $name = $number,)*
         }
 
         impl Refusal {
@@ -66,6 +73,13 @@ macro_rules! refusals {
             pub const fn question(self) -> &'static str {
                 match self {
                     $(Refusal::$name => $question,)*
+                }
+            }
+
+            /// What is wrong, as a statement.
+            pub const fn statement(self) -> &'static str {
+                match self {
+                    $(Refusal::$name => $statement,)*
                 }
             }
 
@@ -80,27 +94,69 @@ macro_rules! refusals {
 }
 
 refusals! {
-    BookLength = 1, "is the book 18 to 850 bytes long?";
-    Edition = 2, "is byte 0 equal to 1?";
-    Steps = 3, "is N 1 to 8?";
-    Counts = 4, "is each of the four counts at most 64?";
-    Layout = 5, "do the four offsets and the length agree with the layout?";
-    Terms = 6, "is every term as described, and does no name stand twice?";
-    Rules = 7, "does every rule name two terms?";
-    MembershipClaims = 8, "is every membership claim within its ranges, grade at most N?";
-    LinkClaims = 9, "is every link claim within its ranges, grade at most N?";
-    Candidates = 10, "are there at most 16,384 candidates?";
-    Marks = 11, "has the marks buffer a byte for each candidate?";
-    Placement = 12, "has the placement buffer 16 bytes?";
-    SheetHead = 13, "has the sheet 12 bytes or more, byte 0 equal to 1, the book's N, n of 1 to 64, and the book's A, R, I?";
-    SheetLayout = 14, "do the sheet's three offsets and its length agree with the layout?";
-    SheetEntries = 15, "is every grade at most N, and every individual's element below n?";
-    Grid = 16, "has the grid buffer n times the term count?";
-    Outcome = 17, "is the outcome 1?";
-    Survivors = 18, "are there at most 64 survivors?";
-    SheetBuffer = 19, "is the sheet buffer long enough?";
-    Candidate = 20, "is each candidate number below the count?";
-    TermOrRole = 21, "is the term, or the role (0 to 7), in range?";
+    BookLength = 1,
+        "is the book 18 to 850 bytes long?",
+        "the book is not 18 to 850 bytes long";
+    Edition = 2,
+        "is byte 0 equal to 1?",
+        "the edition, byte 0, is not 1";
+    Steps = 3,
+        "is N 1 to 8?",
+        "N, byte 1, is not 1 to 8";
+    Counts = 4,
+        "is each of the four counts at most 64?",
+        "a count of terms, rules or claims is above 64";
+    Layout = 5,
+        "do the four offsets and the length agree with the layout?",
+        "an offset or the length disagrees with the layout";
+    Terms = 6,
+        "is every term as described, and does no name stand twice?",
+        "a term is not as described, or a name stands in two terms";
+    Rules = 7,
+        "does every rule name two terms?",
+        "a rule names a term that the book does not have";
+    MembershipClaims = 8,
+        "is every membership claim within its ranges, grade at most N?",
+        "a membership claim is out of range, or its grade is above N";
+    LinkClaims = 9,
+        "is every link claim within its ranges, grade at most N?",
+        "a link claim is out of range, or its grade is above N";
+    Candidates = 10,
+        "are there at most 16,384 candidates?",
+        "there are more than 16,384 candidates";
+    Marks = 11,
+        "has the marks buffer a byte for each candidate?",
+        "the marks buffer has fewer bytes than there are candidates";
+    Placement = 12,
+        "has the placement buffer 16 bytes?",
+        "the placement buffer has fewer than 16 bytes";
+    SheetHead = 13,
+        "has the sheet 12 bytes or more, byte 0 equal to 1, the book's N, n of 1 to 64, and the book's A, R, I?",
+        "the sheet has fewer than 12 bytes, byte 0 is not 1, n is not 1 to 64, or N, A, R or I are not the book's";
+    SheetLayout = 14,
+        "do the sheet's three offsets and its length agree with the layout?",
+        "an offset or the length of the sheet disagrees with the layout";
+    SheetEntries = 15,
+        "is every grade at most N, and every individual's element below n?",
+        "a grade on the sheet is above N, or an individual's element is not below n";
+    Grid = 16,
+        "has the grid buffer n times the term count?",
+        "the grid buffer has fewer bytes than n times the term count";
+    Outcome = 17,
+        "is the outcome 1?",
+        "the outcome is not 1";
+    Survivors = 18,
+        "are there at most 64 survivors?",
+        "there are more than 64 survivors";
+    SheetBuffer = 19,
+        "is the sheet buffer long enough?",
+        "the sheet buffer is too short for the sheet";
+    Candidate = 20,
+        "is each candidate number below the count?",
+        "a candidate number is not below the number of candidates";
+    TermOrRole = 21,
+        "is the term, or the role (0 to 7), in range?",
+        "the term, or the role, is out of range";
 }
 
 impl Refusal {
@@ -120,7 +176,7 @@ impl Refusal {
 
 impl fmt::Display for Refusal {
     fn fmt(&self, f: &mut fmt::Formatter) -> fmt::Result {
-        write!(f, "refused {}: {}", self.number(), self.question())
+        write!(f, "refused {}: {}", self.number(), self.statement())
     }
 }
 
@@ -144,6 +200,38 @@ pub struct Decided {
     pub outcome: Outcome,
     /// How many candidates are marked 1.
     pub survivors: usize,
+}
+
+/// What deciding finds of a book, kept: the answer of [`decide`], its list and its placement as numbers.
+#[derive(Clone, Debug, PartialEq, Eq, Hash)]
+pub struct Decision {
+    pub outcome: Outcome,
+    marks: Vec<u8>,
+    placement: [u8; PLACEMENT],
+}
+
+impl Decision {
+    /// Decides a book, with buffers of its own: refused with 1 to 10, or decided.
+    ///
+    /// Needs the stack that [`decide`] needs, and a byte of the heap for each candidate.
+    pub fn of(book: &[u8]) -> Result<Decision, Refusal> {
+        // A candidate's number is below 16,384, so no individual's bytes are these.
+        let mut placement = [0xFF; PLACEMENT];
+        let mut marks = vec![0; count(book)? as usize];
+        let decided = decide(book, &mut marks, &mut placement)?;
+        Ok(Decision { outcome: decided.outcome, marks, placement })
+    }
+
+    /// The candidates that survive, ascending: exactly the types that can occur in a model of the rules.
+    pub fn listed(&self) -> impl Iterator<Item = usize> + '_ {
+        self.marks.iter().enumerate().filter(|(_, &mark)| mark == 1).map(|(candidate, _)| candidate)
+    }
+
+    /// The candidate at which each individual is placed, individual 0 first; empty but for [`Outcome::HoldsTogether`].
+    pub fn placed(&self) -> impl Iterator<Item = usize> + '_ {
+        let seats = self.placement.chunks(2).map(|two| usize::from(two[0]) * 256 + usize::from(two[1]));
+        seats.take_while(|&seat| seat < MARKS)
+    }
 }
 
 /// The answer of [`work_out`]. Rules, claims and elements are numbered from 0.
@@ -251,6 +339,10 @@ pub fn work_out(book: &[u8], sheet: &[u8], grid: &mut [u8]) -> Result<Verdict, R
 }
 
 /// The grade of a term in a candidate, after 1 to 10, 20 and 21.
+///
+/// A candidate gives each term a grade. Those of names and of "some" and "all" terms (the kinds 0, 4 and 5), in the terms'
+/// order, are the digits of the candidate's number in base N + 1, lowest first; those of the other terms follow from their
+/// children's.
 pub fn grade(book: &[u8], candidate: usize, term: usize) -> Result<u8, Refusal> {
     // SAFETY: see `check`.
     let graded = unsafe { raw::zegbiko_grade(book.as_ptr(), book.len(), candidate, term) };
@@ -258,7 +350,20 @@ pub fn grade(book: &[u8], candidate: usize, term: usize) -> Result<u8, Refusal> 
     Ok(graded.grade)
 }
 
-/// The link from one candidate to another for a role, after 1 to 10, 20 and 21.
+/// The link from one candidate to another for a role, after 1 to 10, 20 and 21: the strongest that their grades allow.
+///
+/// It is the greatest r of 0 to N such that
+///
+/// - for each "all" term of the role, max(N − r, the child's grade in `to`) is at least the term's grade in `from`, and
+/// - for each "some" term of the role, min(r, the child's grade in `to`) is at most the term's grade in `from`.
+///
+/// Where no term has the role, it is N. No interpretation has a stronger link between elements of these two types.
+///
+/// With this link r, `to` is a *witness* of a quantified term in `from` when the term takes just its grade from it: "all"
+/// when max(N − r, the child's grade in `to`) equals the term's grade in `from`, "some" when min(r, the child's grade in
+/// `to`) does. A link of 0 can do that too. Each quantified term of a survivor has a witness among the survivors. A set of
+/// survivors that has a witness for each quantified term of each member is, with these links, an interpretation in which
+/// each member has its grades; `docs/USING.md` makes a sheet of such a set ("A model that fits on a sheet").
 pub fn link(book: &[u8], role: u8, from: usize, to: usize) -> Result<u8, Refusal> {
     // SAFETY: see `check`.
     let graded = unsafe { raw::zegbiko_link(book.as_ptr(), book.len(), role, from, to) };

@@ -1,12 +1,17 @@
 //! The interface is written three times: in the header, in the wrapper and in the exports. Here they are held against each
-//! other and against the table of refusals; then a program that includes the header is compiled as C and as C++, and run.
+//! other, against the tables of refusals and against the manual page; then a program that includes the header is compiled as
+//! C and as C++, and run.
 
+#[path = "support/document.rs"]
+#[allow(dead_code)]
+mod document;
 mod interface;
 
 use std::fs;
 use std::mem::{offset_of, size_of};
 use std::process::Command;
 
+use document::table_under;
 use interface::{c, rust, struct_name, Lines};
 use zegbiko::raw;
 
@@ -14,6 +19,7 @@ const HEADER: &str = "../include/zegbiko.h";
 const WRAPPER: &str = "src/lib.rs";
 const EXPORTS: &str = "../crates/zegbiko/src/lib.rt";
 const NUMBERS: &str = "../docs/NUMBERS.md";
+const MANUAL: &str = "../docs/decide.1";
 
 fn read(path: &str) -> String {
     fs::read_to_string(path).unwrap_or_else(|error| panic!("{path}: {error}"))
@@ -43,18 +49,49 @@ fn constants_of_header_and_wrapper() {
     agree((HEADER, c::constants(&read(HEADER))), (WRAPPER, rust::constants(&read(WRAPPER))));
 }
 
+/// The header has the version; the others repeat it.
+#[test]
+fn versions() {
+    assert_eq!(zegbiko::VERSION, env!("CARGO_PKG_VERSION"), "that of Cargo.toml");
+    let manual = read(MANUAL);
+    let title = manual.lines().find(|line| line.starts_with(".TH ")).expect("a title");
+    assert!(title.contains(&format!("\"Zegbiko {}\"", zegbiko::VERSION)), "{MANUAL}: {title}");
+}
+
 /// What the document explains in brackets is its own.
 #[test]
-fn refusals_of_wrapper_and_document() {
-    let document = read(NUMBERS);
-    let rows = document.lines().filter_map(|line| {
-        let cells: Vec<&str> = line.split('|').map(str::trim).collect();
-        let number: u8 = cells.get(1)?.parse().ok()?;
-        Some(without_brackets(&format!("{number} \"{}\"", cells[2])))
-    });
+fn questions_of_wrapper_and_document() {
+    let rows = table_under(&read(NUMBERS), "| number | question | asked by | after |");
+    let document = rows.iter().map(|row| without_brackets(&format!("{} \"{}\"", row[0], row[1])));
     let questions = rust::questions(&read(WRAPPER));
     assert_eq!(questions.len(), 21);
-    agree((NUMBERS, rows.collect()), (WRAPPER, questions.iter().map(|line| without_brackets(line)).collect()));
+    agree((NUMBERS, document.collect()), (WRAPPER, questions.iter().map(|line| without_brackets(line)).collect()));
+}
+
+/// The texts of the header are held against the wrapper's below, where a program in C writes them.
+#[test]
+fn statements_of_wrapper_and_documents() {
+    let statements = rust::statements(&read(WRAPPER));
+    assert_eq!(statements.len(), 21);
+    let rows = table_under(&read(NUMBERS), "| number | it says | usual causes |");
+    agree(
+        (NUMBERS, rows.iter().map(|row| format!("{} \"{}\"", row[0], row[1])).collect()),
+        (WRAPPER, statements.clone()),
+    );
+
+    let manual = read(MANUAL);
+    let refusals =
+        manual.lines().skip_while(|line| *line != ".SH REFUSALS").take_while(|line| *line != ".SH EXIT STATUS");
+    let printed = refusals
+        .filter_map(|line| line.trim_start().split_once("  "))
+        .filter(|(number, _)| number.parse::<u8>().is_ok());
+    let first_ten = statements
+        .into_iter()
+        .filter(|line| line.split(' ').next().is_some_and(|n| n.parse::<u8>().is_ok_and(|n| n <= 10)));
+    agree(
+        (MANUAL, printed.map(|(number, text)| format!("{number} \"{text}\"")).collect()),
+        (WRAPPER, first_ten.collect()),
+    );
 }
 
 fn without_brackets(line: &str) -> String {
@@ -64,15 +101,15 @@ fn without_brackets(line: &str) -> String {
     }
 }
 
-/// Sizes and offsets in C and C++ are Rust's, and a call from there is answered.
+/// Sizes, offsets and texts in C and C++ are Rust's, and a call from there is answered.
 #[test]
 fn programs_in_c_and_cplusplus() {
-    let mut layout = Vec::new();
+    let mut expected = Vec::new();
     macro_rules! add {
         ($($name:ident { $($field:ident),* })*) => {$(
             let name = struct_name(stringify!($name));
-            layout.push(format!("{name} {}", size_of::<raw::$name>()));
-            $(layout.push(format!("{name}.{} {}", stringify!($field), offset_of!(raw::$name, $field)));)*
+            expected.push(format!("{name} {}", size_of::<raw::$name>()));
+            $(expected.push(format!("{name}.{} {}", stringify!($field), offset_of!(raw::$name, $field)));)*
         )*};
     }
     add! {
@@ -83,6 +120,13 @@ fn programs_in_c_and_cplusplus() {
         Graded { refusal, grade }
     }
 
+    expected.push("0 \"not refused\"".into());
+    let statements = rust::statements(&read(WRAPPER));
+    for number in 1..=21 {
+        expected.push(statements.iter().find(|line| line.starts_with(&format!("{number} "))).expect("a text").clone());
+    }
+    expected.push("22 \"no refusal number\"".into());
+
     let mut program = String::from("#include <zegbiko.h>\n#include <stdio.h>\nint main(void) {\n");
     for (name, fields) in c::structs(&read(HEADER)) {
         program += &format!("printf(\"{name} %zu\\n\", sizeof(zegbiko_{name}));\n");
@@ -90,6 +134,7 @@ fn programs_in_c_and_cplusplus() {
             program += &format!("printf(\"{name}.{field} %zu\\n\", offsetof(zegbiko_{name}, {field}));\n");
         }
     }
+    program += "for (uint8_t i = 0; i < 23; i++) printf(\"%d \\\"%s\\\"\\n\", i, zegbiko_refusal_text(i));\n";
     program += "return zegbiko_check((const uint8_t *)\"\", 0) == ZEGBIKO_REFUSED_BOOK_LENGTH ? 0 : 1;\n}\n";
 
     for (language, standard) in [("c", "-std=c99"), ("c++", "-std=c++11")] {
@@ -102,6 +147,6 @@ fn programs_in_c_and_cplusplus() {
         assert!(compiler.status().expect("a C compiler").success(), "{compiler:?}");
         let run = Command::new(&program_path).output().expect("a program");
         assert!(run.status.success(), "in {language} a book of no bytes is not refused with 1");
-        assert_eq!(String::from_utf8_lossy(&run.stdout).lines().collect::<Vec<_>>(), layout, "{language}");
+        assert_eq!(String::from_utf8_lossy(&run.stdout).lines().collect::<Vec<_>>(), expected, "{language}");
     }
 }

@@ -125,8 +125,20 @@ impl Case<'_> {
         let ([refusal, outcome, ..], buffers) = self.compare(Call::Decide { marks, placement }, &[]);
         if refusal == 0 {
             self.note_the_placement(outcome, buffers[1].contents());
+            self.compare_decision(outcome, buffers[1].contents());
         }
         self.compare_writing();
+    }
+
+    /// The wrapper's `Decision` says the same, with list and placement as numbers.
+    fn compare_decision(&self, outcome: usize, placement: &[u8]) {
+        let (Ok(book), Ok(eliminated)) = (self.plain.book(), self.plain.eliminated()) else { unreachable!("decided") };
+        let placed = if outcome == 1 { book.individuals() } else { 0 };
+        let decision = zegbiko::Decision::of(&self.book).expect("decided");
+        assert_eq!(decision.outcome as usize, outcome, "{}", self.name());
+        assert!(decision.listed().eq(eliminated.survivors.keys().copied()), "{}", self.name());
+        let seats = placement.chunks(2).map(|place| usize::from(place[0]) * 256 + usize::from(place[1]));
+        assert!(decision.placed().eq(seats.take(placed)), "{}", self.name());
     }
 
     fn note_the_placement(&mut self, outcome: usize, placement: &[u8]) {

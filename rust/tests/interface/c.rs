@@ -30,9 +30,14 @@ pub fn constants(header: &str) -> Lines {
     constants.collect()
 }
 
-/// The tokens without directives and without the brackets that only C++ sees.
+/// The tokens without directives, without the brackets that only C++ sees, and without functions that the header has whole.
 fn code(header: &str) -> Vec<String> {
-    let for_c = |line: &&str| !line.starts_with('#') && *line != "extern \"C\" {" && *line != "}";
+    let mut whole = false;
+    let for_c = |line: &&str| {
+        let inside = whole || line.starts_with("static inline ");
+        whole = inside && *line != "}";
+        !inside && !line.starts_with('#') && *line != "extern \"C\" {" && *line != "}"
+    };
     tokens(&header.lines().filter(for_c).collect::<Vec<_>>().join("\n"))
 }
 

@@ -18,7 +18,8 @@ pub fn export_calls(text: &str) -> Lines {
 pub fn constants(text: &str) -> Lines {
     let tokens = tokens(text);
     let constants = behind(&tokens, &["pub", "const"]).filter(|rest| rest[1] == ":");
-    let mut lines: Lines = constants.map(|rest| format!("{} = {}", rest[0], rest[4])).collect();
+    let value = |rest: &[String]| rest[1 + rest.iter().position(|token| token == "=").expect("a value")].clone();
+    let mut lines: Lines = constants.map(|rest| format!("{} = {}", rest[0], value(rest))).collect();
     for (prefix, pattern) in [("REFUSED_", "refusals !"), ("", "pub enum Outcome"), ("", "pub enum Verdict")] {
         for rest in behind(&tokens, &pattern.split(' ').collect::<Vec<_>>()) {
             lines.extend(numbered(inside(rest)).map(|(case, number)| format!("{prefix}{} = {number}", upper(case))));
@@ -29,13 +30,22 @@ pub fn constants(text: &str) -> Lines {
 
 /// The refusals with their questions: `number "question"`.
 pub fn questions(text: &str) -> Lines {
+    refusals(text, |question, _| question)
+}
+
+/// The refusals with their statements, likewise.
+pub fn statements(text: &str) -> Lines {
+    refusals(text, |_, statement| statement)
+}
+
+fn refusals(text: &str, words: for<'a> fn(&'a str, &'a str) -> &'a str) -> Lines {
     let tokens = tokens(text);
     let refusals = behind(&tokens, &["refusals", "!"]).flat_map(|rest| entries(inside(rest), ";"));
-    let questions = refusals.filter_map(|entry| match entry {
-        [_, _, number, _, question] => Some(format!("{number} {question}")),
+    let lines = refusals.filter_map(|entry| match entry {
+        [_, _, number, _, question, _, statement] => Some(format!("{number} {}", words(question, statement))),
         _ => None,
     });
-    questions.collect()
+    lines.collect()
 }
 
 fn functions(tokens: &[String], marker: &[&str]) -> Vec<String> {
