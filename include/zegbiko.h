@@ -1,7 +1,8 @@
 /*
  * Zegbiko: checks, decides and works out graded rule books in fuzzy ALC.
  *
- * The library is target/staticlib/libzegbiko.a, made by `rt staticlib zegbiko` (x86-64 Linux). It calls nothing but memset.
+ * The library is target/staticlib/libzegbiko.a, made by `rt staticlib zegbiko` (x86-64 Linux). It calls nothing but memset and
+ * memcpy.
  *
  * Every call takes a book's bytes as they come and checks them first: bad input is refused with a number, and nothing is asked
  * of a caller but what C cannot check:
@@ -88,7 +89,7 @@ static inline const char *zegbiko_refusal_text(uint8_t refusal) {
     case ZEGBIKO_REFUSED_SHEET_LAYOUT: return "an offset or the length of the sheet disagrees with the layout";
     case ZEGBIKO_REFUSED_SHEET_ENTRIES: return "a grade on the sheet is above N, or an individual's element is not below n";
     case ZEGBIKO_REFUSED_GRID: return "the grid buffer has fewer bytes than n times the term count";
-    case ZEGBIKO_REFUSED_OUTCOME: return "the outcome is not 1";
+    case ZEGBIKO_REFUSED_OUTCOME: return "the outcome is not 1: rules and claims do not hold together";
     case ZEGBIKO_REFUSED_SURVIVORS: return "there are more than 64 survivors";
     case ZEGBIKO_REFUSED_SHEET_BUFFER: return "the sheet buffer is too short for the sheet";
     case ZEGBIKO_REFUSED_CANDIDATE: return "a candidate number is not below the number of candidates";
@@ -190,9 +191,9 @@ zegbiko_graded zegbiko_grade(const uint8_t *book, size_t book_length, size_t can
  *
  * With this link r, `to` is a witness of a quantified term in `from` when the term takes just its grade from it: "all" when
  * max(N - r, the child's grade in `to`) equals the term's grade in `from`, "some" when min(r, the child's grade in `to`) does. A link of
- * 0 can do that too. Each quantified term of a survivor has a witness among the survivors. A set of survivors that has a witness for
- * each quantified term of each member is, with these links, an interpretation in which each member has its grades; docs/USING.md makes
- * a sheet of such a set ("A model that fits on a sheet").
+ * 0 can do that too. Each quantified term of a survivor has a witness among the survivors. Some survivors, at least one, among which
+ * each quantified term of each has a witness are, with these links, an interpretation in which each has its grades; docs/USING.md
+ * makes a sheet of such ("A model that fits on a sheet").
  */
 zegbiko_graded zegbiko_link(const uint8_t *book, size_t book_length, uint8_t role, size_t from, size_t to);
 

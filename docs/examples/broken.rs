@@ -18,7 +18,7 @@ fn main() -> Result<(), Box<dyn Error>> {
     let [book, sheet] = &files[..] else { return Err("name a book and a sheet".into()) };
     let (book, sheet) = (std::fs::read(book)?, std::fs::read(sheet)?);
     let mut grid = [0; GRID];
-    work_out(&book, &sheet, &mut grid)?; // so both are accepted, and the grid is filled
+    work_out(&book, &sheet, &mut grid).map_err(|refusal| refusal.to_string())?; // so both are accepted, and the grid is filled
 
     let (terms, elements) = (word(&book, 4), usize::from(sheet[2]));
     let (links, individuals) = (word(&sheet, 8), word(&sheet, 10));

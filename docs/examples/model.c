@@ -67,7 +67,7 @@ static void write_sheet(size_t terms, size_t individuals) {
 
 int main(int argc, char **argv) {
     FILE *f = argc > 1 ? fopen(argv[1], "rb") : NULL;
-    if (!f) return 2;
+    if (!f) return fprintf(stderr, "usage: model BOOK, a file that can be read\n"), 2;
     size = fread(book, 1, sizeof book, f);
     fclose(f);
     memset(placement, 0xFF, sizeof placement); /* no candidate's number begins so: such bytes are no individual's */

@@ -17,12 +17,12 @@ static size_t load(const char *file, uint8_t *bytes, size_t most) {
 }
 
 static int refused(uint8_t number) {
-    printf("refused %u\n", number);
+    printf("refused %u: %s\n", number, zegbiko_refusal_text(number));
     return 1;
 }
 
 int main(int argc, char **argv) {
-    if (argc < 2) return 2;
+    if (argc < 2) return fprintf(stderr, "usage: sheets BOOK [SHEET]\n"), 2;
     size_t size = load(argv[1], book, sizeof book), length;
     if (argc > 2) {
         length = load(argv[2], sheet, sizeof sheet);

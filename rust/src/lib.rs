@@ -1,13 +1,19 @@
 //! A proved checker for graded rule books: knowledge bases in the description logic fuzzy ALC on a chain of N steps.
 //!
-//! This crate is the safe side of `include/zegbiko.h`. Every call takes a book's bytes as they come and checks them
-//! first: bad input is refused with a [`Refusal`], and nothing is asked of the caller. A refusal changes no buffer, but
-//! for 17 to 19, which come after deciding. Buffers of [`MARKS`], [`PLACEMENT`], [`SHEET`] and [`GRID`] bytes suffice for
-//! every book.
+//! This crate is the safe side of `include/zegbiko.h`. `docs/USING.md` of the repository describes books and sheets byte by
+//! byte, and has recipes; `docs/NUMBERS.md` says which call asks what, in which order, and what usually causes a refusal.
+//!
+//! Every call takes a book's bytes as they come and checks them first: bad input is refused with a [`Refusal`], and nothing
+//! is asked of the caller. A refusal changes no buffer, but for 17 to 19, which come after deciding. Buffers of [`MARKS`],
+//! [`PLACEMENT`], [`SHEET`] and [`GRID`] bytes suffice for every book.
 //!
 //! No call keeps anything for a later one, so all may be made from several threads at once. None uses the heap, but for
 //! [`Decision::of`]. [`decide`] and [`write_sheet`] need some 1.2 MB of stack: a thread with Rust's default of 2 MB
-//! suffices, one of 1 MB does not. The others need a few KB.
+//! suffices, one of 1 MB does not. The others need a few KB. Deciding most books takes some 20 to 60 µs, but placing
+//! individuals is exponential at worst, and nothing stops it: decide books of strangers in a process with a limit of time.
+//!
+//! The library is `target/staticlib/libzegbiko.a` of the repository, which `rt staticlib zegbiko` makes, or the one in the
+//! folder that `ZEGBIKO_LIB_DIR` names when this crate is built, from the folder in which cargo is called. x86-64 Linux.
 //!
 //! The book printed in the specification grades A and "not A" alike, on two steps, and claims A at least 1 of individual 0:
 //!
@@ -62,8 +68,9 @@ macro_rules! refusals {
     ($($name:ident = $number:literal, $question:literal, $statement:literal;)*) => {
         /// The first check that said no, with its number; `docs/NUMBERS.md` says which call asks what, when, and what
         /// usually causes a refusal.
-        #[derive(Clone, Copy, Debug, PartialEq, Eq, Hash)]
+        #[derive(Clone, Copy, Debug, PartialEq, Eq, PartialOrd, Ord, Hash)]
         #[repr(u8)]
+        #[non_exhaustive]
         pub enum Refusal {
             $(#[doc = $statement] $name = $number,)*
         }
@@ -83,7 +90,8 @@ macro_rules! refusals {
                 }
             }
 
-            const fn numbered(number: u8) -> Option<Refusal> {
+            /// The refusal with this number, if there is one.
+            pub const fn numbered(number: u8) -> Option<Refusal> {
                 match number {
                     $($number => Some(Refusal::$name),)*
                     _ => None,
@@ -144,7 +152,7 @@ refusals! {
         "the grid buffer has fewer bytes than n times the term count";
     Outcome = 17,
         "is the outcome 1?",
-        "the outcome is not 1";
+        "the outcome is not 1: rules and claims do not hold together";
     Survivors = 18,
         "are there at most 64 survivors?",
         "there are more than 64 survivors";
@@ -185,6 +193,7 @@ impl Error for Refusal {}
 /// What deciding finds.
 #[derive(Clone, Copy, Debug, PartialEq, Eq, Hash)]
 #[repr(u8)]
+#[non_exhaustive]
 pub enum Outcome {
     /// Some model meets rules and claims.
     HoldsTogether = 1,
@@ -194,8 +203,19 @@ pub enum Outcome {
     NoModel = 3,
 }
 
+impl fmt::Display for Outcome {
+    fn fmt(&self, f: &mut fmt::Formatter) -> fmt::Result {
+        f.write_str(match self {
+            Outcome::HoldsTogether => "rules and claims hold together",
+            Outcome::ClaimsFail => "the rules have a model, but none meets the claims",
+            Outcome::NoModel => "the rules have no model",
+        })
+    }
+}
+
 /// The answer of [`decide`].
 #[derive(Clone, Copy, Debug, PartialEq, Eq, Hash)]
+#[non_exhaustive]
 pub struct Decided {
     pub outcome: Outcome,
     /// How many candidates are marked 1.
@@ -203,9 +223,9 @@ pub struct Decided {
 }
 
 /// What deciding finds of a book, kept: the answer of [`decide`], its list and its placement as numbers.
-#[derive(Clone, Debug, PartialEq, Eq, Hash)]
+#[derive(Clone, PartialEq, Eq, Hash)]
 pub struct Decision {
-    pub outcome: Outcome,
+    decided: Decided,
     marks: Vec<u8>,
     placement: [u8; PLACEMENT],
 }
@@ -217,26 +237,50 @@ impl Decision {
     pub fn of(book: &[u8]) -> Result<Decision, Refusal> {
         // A candidate's number is below 16,384, so no individual's bytes are these.
         let mut placement = [0xFF; PLACEMENT];
-        let mut marks = vec![0; count(book)? as usize];
+        let mut marks = vec![0; count(book)?];
         let decided = decide(book, &mut marks, &mut placement)?;
-        Ok(Decision { outcome: decided.outcome, marks, placement })
+        Ok(Decision { decided, marks, placement })
+    }
+
+    pub fn outcome(&self) -> Outcome {
+        self.decided.outcome
+    }
+
+    /// How many candidates survive.
+    pub fn survivors(&self) -> usize {
+        self.decided.survivors
+    }
+
+    /// Does this candidate survive?
+    pub fn lists(&self, candidate: usize) -> bool {
+        self.marks.get(candidate) == Some(&1)
     }
 
     /// The candidates that survive, ascending: exactly the types that can occur in a model of the rules.
-    pub fn listed(&self) -> impl Iterator<Item = usize> + '_ {
-        self.marks.iter().enumerate().filter(|(_, &mark)| mark == 1).map(|(candidate, _)| candidate)
+    pub fn listed(&self) -> impl DoubleEndedIterator<Item = usize> + '_ {
+        (0..self.marks.len()).filter(|&candidate| self.lists(candidate))
     }
 
     /// The candidate at which each individual is placed, individual 0 first; empty but for [`Outcome::HoldsTogether`].
-    pub fn placed(&self) -> impl Iterator<Item = usize> + '_ {
-        let seats = self.placement.chunks(2).map(|two| usize::from(two[0]) * 256 + usize::from(two[1]));
-        seats.take_while(|&seat| seat < MARKS)
+    pub fn placed(&self) -> impl DoubleEndedIterator<Item = usize> + ExactSizeIterator + '_ {
+        let seat = |two: &[u8]| usize::from(two[0]) * 256 + usize::from(two[1]);
+        let individuals = self.placement.chunks(2).take_while(|two| seat(two) < MARKS).count();
+        self.placement[..2 * individuals].chunks(2).map(seat)
+    }
+}
+
+impl fmt::Debug for Decision {
+    fn fmt(&self, f: &mut fmt::Formatter) -> fmt::Result {
+        let placed: Vec<usize> = self.placed().collect();
+        let mut fields = f.debug_struct("Decision");
+        fields.field("outcome", &self.outcome()).field("survivors", &self.survivors()).field("placed", &placed).finish()
     }
 }
 
 /// The answer of [`work_out`]. Rules, claims and elements are numbered from 0.
 #[derive(Clone, Copy, Debug, PartialEq, Eq, Hash)]
 #[repr(u8)]
+#[non_exhaustive]
 pub enum Verdict {
     /// Every rule and claim is met.
     Meets = 0,
@@ -248,6 +292,17 @@ pub enum Verdict {
     BreaksLink { claim: usize } = 3,
 }
 
+impl fmt::Display for Verdict {
+    fn fmt(&self, f: &mut fmt::Formatter) -> fmt::Result {
+        match self {
+            Verdict::Meets => write!(f, "meets"),
+            Verdict::BreaksRule { rule, element } => write!(f, "breaks rule {rule} at element {element}"),
+            Verdict::BreaksMembership { claim } => write!(f, "breaks membership claim {claim}"),
+            Verdict::BreaksLink { claim } => write!(f, "breaks link claim {claim}"),
+        }
+    }
+}
+
 /// Checks a book: refused with 1 to 9, or accepted.
 pub fn check(book: &[u8]) -> Result<(), Refusal> {
     // SAFETY: as for every call below, a slice's pointer is not null and valid for its length, and a mutable slice
@@ -256,21 +311,21 @@ pub fn check(book: &[u8]) -> Result<(), Refusal> {
     Refusal::unless_answered(refusal)
 }
 
-/// Checks a book, 1 to 10, and counts its candidates.
-pub fn count(book: &[u8]) -> Result<u64, Refusal> {
+/// Counts the candidates of a book; refused with 1 to 10.
+pub fn count(book: &[u8]) -> Result<usize, Refusal> {
     // SAFETY: see `check`.
     let counted = unsafe { raw::zegbiko_count(book.as_ptr(), book.len()) };
     Refusal::unless_answered(counted.refusal)?;
-    Ok(counted.candidates)
+    Ok(counted.candidates as usize)
 }
 
-/// Decides a book by type elimination, after 1 to 12.
+/// Decides a book by type elimination; refused with 1 to 12.
 ///
 /// Byte c of `marks` is set to 1 if candidate c survives, else to 0; bytes past the number of candidates are kept. For
 /// [`Outcome::HoldsTogether`] two bytes of `placement` for each individual, the high byte first, are set to the
 /// candidate at which it is placed; the bytes past them are kept, and for the other outcomes all of them.
 ///
-/// Needs some 1.2 MB of stack; a thread of Rust's default size has it.
+/// Needs some 1.2 MB of stack; a thread of Rust's default size has it. Nothing stops a placing that takes long.
 pub fn decide(book: &[u8], marks: &mut [u8], placement: &mut [u8]) -> Result<Decided, Refusal> {
     // SAFETY: see `check`.
     let decided = unsafe {
@@ -293,8 +348,8 @@ pub fn decide(book: &[u8], marks: &mut [u8], placement: &mut [u8]) -> Result<Dec
     Ok(Decided { outcome, survivors: decided.survivors })
 }
 
-/// Decides a book as [`decide`] does, `marks` and `placement` likewise, then, after 17 to 19, writes the sheet of its
-/// model and gives the sheet's length.
+/// Decides a book as [`decide`] does, `marks` and `placement` likewise, then writes the sheet of its model and gives the
+/// sheet's length; refused with 1 to 12 and, after deciding, 17 to 19.
 ///
 /// The model's elements are the survivors, ascending, with the individuals as placed. The bytes of `sheet` past the sheet
 /// are kept, and on a refusal all of them; a refusal with 17 to 19 leaves `marks` and `placement` as decided.
@@ -318,8 +373,8 @@ pub fn write_sheet(book: &[u8], marks: &mut [u8], placement: &mut [u8], sheet: &
     Ok(written.length)
 }
 
-/// Works out a sheet on a book, after 1 to 9 and 13 to 16: whether it meets the rules and claims, or which is the first
-/// broken.
+/// Works out a sheet on a book: whether it meets the rules and claims, or which is broken first; refused with 1 to 9 and
+/// 13 to 16.
 ///
 /// The first n times the term count bytes of `grid` are set, element by element, to the grades of all terms; the bytes
 /// past them are kept.
@@ -338,7 +393,7 @@ pub fn work_out(book: &[u8], sheet: &[u8], grid: &mut [u8]) -> Result<Verdict, R
     })
 }
 
-/// The grade of a term in a candidate, after 1 to 10, 20 and 21.
+/// The grade of a term in a candidate; refused with 1 to 10, 20 and 21.
 ///
 /// A candidate gives each term a grade. Those of names and of "some" and "all" terms (the kinds 0, 4 and 5), in the terms'
 /// order, are the digits of the candidate's number in base N + 1, lowest first; those of the other terms follow from their
@@ -350,7 +405,8 @@ pub fn grade(book: &[u8], candidate: usize, term: usize) -> Result<u8, Refusal> 
     Ok(graded.grade)
 }
 
-/// The link from one candidate to another for a role, after 1 to 10, 20 and 21: the strongest that their grades allow.
+/// The link from one candidate to another for a role: the strongest that their grades allow; refused with 1 to 10, 20 and
+/// 21.
 ///
 /// It is the greatest r of 0 to N such that
 ///
@@ -361,9 +417,9 @@ pub fn grade(book: &[u8], candidate: usize, term: usize) -> Result<u8, Refusal> 
 ///
 /// With this link r, `to` is a *witness* of a quantified term in `from` when the term takes just its grade from it: "all"
 /// when max(N − r, the child's grade in `to`) equals the term's grade in `from`, "some" when min(r, the child's grade in
-/// `to`) does. A link of 0 can do that too. Each quantified term of a survivor has a witness among the survivors. A set of
-/// survivors that has a witness for each quantified term of each member is, with these links, an interpretation in which
-/// each member has its grades; `docs/USING.md` makes a sheet of such a set ("A model that fits on a sheet").
+/// `to`) does. A link of 0 can do that too. Each quantified term of a survivor has a witness among the survivors. Some
+/// survivors, at least one, among which each quantified term of each has a witness are, with these links, an
+/// interpretation in which each has its grades; `docs/USING.md` makes a sheet of such ("A model that fits on a sheet").
 pub fn link(book: &[u8], role: u8, from: usize, to: usize) -> Result<u8, Refusal> {
     // SAFETY: see `check`.
     let graded = unsafe { raw::zegbiko_link(book.as_ptr(), book.len(), role, from, to) };

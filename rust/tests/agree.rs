@@ -11,7 +11,7 @@ use std::fs;
 use std::mem::{offset_of, size_of};
 use std::process::Command;
 
-use document::table_under;
+use document::{numbered, table_under};
 use interface::{c, rust, struct_name, Lines};
 use zegbiko::raw;
 
@@ -73,11 +73,9 @@ fn questions_of_wrapper_and_document() {
 fn statements_of_wrapper_and_documents() {
     let statements = rust::statements(&read(WRAPPER));
     assert_eq!(statements.len(), 21);
-    let rows = table_under(&read(NUMBERS), "| number | it says | usual causes |");
-    agree(
-        (NUMBERS, rows.iter().map(|row| format!("{} \"{}\"", row[0], row[1])).collect()),
-        (WRAPPER, statements.clone()),
-    );
+    let document = read(NUMBERS);
+    let written = numbered(&document).into_iter().map(|(number, text)| format!("{number} \"{text}\""));
+    agree((NUMBERS, written.collect()), (WRAPPER, statements.clone()));
 
     let manual = read(MANUAL);
     let refusals =

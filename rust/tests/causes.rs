@@ -1,6 +1,7 @@
 //! The usual causes of refusals in `docs/NUMBERS.md`: each mistake is made, and refused with the number under which it
 //! stands there. Of the mistakes that no check can see, each gives another book, or sheet, that is accepted.
 
+#[allow(dead_code)]
 #[path = "support/document.rs"]
 mod document;
 #[allow(dead_code)]
@@ -10,7 +11,7 @@ mod draft;
 use std::collections::BTreeSet;
 use std::fs;
 
-use document::{bullets_under, table_under};
+use document::{bullets_under, numbered};
 use draft::{Draft, ALL, AND, NAME, NOT, OR, SOME};
 
 const NUMBERS: &str = "../docs/NUMBERS.md";
@@ -22,7 +23,7 @@ fn right() -> Draft {
         terms: vec![[NAME, 0, 0], [NAME, 1, 0], [NOT, 0, 0], [SOME, 0, 1], [ALL, 1, 2], [AND, 3, 4]],
         rules: vec![[0, 1], [5, 3]],
         memberships: vec![[0, 0, 0, 3], [1, 3, 1, 2]],
-        links: vec![[0, 0, 1, 3], [1, 1, 0, 2]],
+        links: vec![[0, 0, 1, 3], [1, 0, 1, 2]],
     }
 }
 
@@ -106,14 +107,18 @@ fn mistakes() -> Vec<(u8, &'static str, u8)> {
     let mut more_names = printed();
     more_names.term(NAME, 1, 0);
     vec![
-        (1, "nothing was read: an empty file, or a path that does not exist", check(&[])),
+        (1, "nothing was read: an empty file, a directory, or the book's name as an argument of `decide` and nothing on its standard input", check(&[])),
         (1, "a book cut off before its head ends", bytes(|book| book.truncate(17))),
-        (1, "the hexadecimal text of a book of more than 425 bytes in place of the bytes", check(&hexadecimal(&long))),
+        (1, "hexadecimal text in place of the bytes, of more than 850 characters: with remarks a book of 50 bytes has that", check(&hexadecimal(&long))),
         (1, "many books one behind the other in one file", check(&right().bytes().repeat(20))),
         (
             2,
-            "hexadecimal text in place of the bytes: byte 0 is then the digit 0, 30 hex",
-            check(&hexadecimal(&right().bytes())),
+            "hexadecimal text in place of the bytes: byte 0 is then a digit or a space, 30 or 20 hex",
+            {
+                let digit = check(&hexadecimal(&right().bytes()));
+                assert_eq!(digit, check(&[b" 0: ", &hexadecimal(&right().bytes())[..]].concat()));
+                digit
+            },
         ),
         (2, "a byte order mark before the book", check(&[&[0xEF, 0xBB, 0xBF][..], &right().bytes()].concat())),
         (2, "a packed file in place of the book", check(&[&[0x1F, 0x8B, 8][..], &right().bytes()].concat())),
@@ -126,20 +131,41 @@ fn mistakes() -> Vec<(u8, &'static str, u8)> {
             "a term written anew wherever it is used, so that there are more than 64",
             draft(|book| book.terms.resize(65, [NOT, 0, 0])),
         ),
+        (4, "offset and count of an entry exchanged, where the offset is above 64", {
+            let book = with(|book| book.rules.resize(20, [0, 0]));
+            let mut bytes = book.bytes();
+            assert!(bytes[11] > 64 && check(&bytes) == 0);
+            bytes[10..14].rotate_left(2);
+            check(&bytes)
+        }),
         (5, "a newline at the end of the file", bytes(|book| book.push(b'\n'))),
+        (5, "an offset written in decimal digits: 00 36 for byte 36, which is 00 24", {
+            assert_eq!(right().bytes()[7], 36);
+            bytes(|book| book[7] = 0x36)
+        }),
+        (5, "a record with a byte too few or too many", {
+            let fewer = bytes(|book| book.truncate(book.len() - 1));
+            assert_eq!(fewer, bytes(|book| book.insert(20, 0)));
+            fewer
+        }),
+        (5, "two short books one behind the other", check(&right().bytes().repeat(2))),
         (5, "an offset not moved after records were inserted before it", {
             let mut book = with(|book| book.rules.push([0, 0])).bytes();
             book[10..18].copy_from_slice(&right().bytes()[10..18]);
             check(&book)
         }),
         (5, "an offset with the low byte first", bytes(|book| book.swap(2, 3))),
-        (5, "a count not raised after a record was added", bytes(|book| book.extend([0, 0, 1, 3]))),
+        (5, "a count not raised after a record was added, or too high", {
+            let not_raised = bytes(|book| book.extend([0, 0, 1, 3]));
+            assert_eq!(not_raised, bytes(|book| book[17] += 1));
+            not_raised
+        }),
         (5, "the offset of an empty section left 0", {
             let mut book = with(|book| book.links.clear()).bytes();
             book[14..16].fill(0);
             check(&book)
         }),
-        (5, "offset and count of an entry exchanged", bytes(|book| book[2..6].rotate_left(2))),
+        (5, "offset and count of an entry exchanged, where the offset is at most 64", bytes(|book| book[2..6].rotate_left(2))),
         (5, "a book cut off behind its head", bytes(|book| book.truncate(40))),
         (6, "a child that is not an earlier term: the term itself, or one behind it", {
             let itself = draft(|book| book.terms[2] = [NOT, 2, 0]);
@@ -174,7 +200,7 @@ fn mistakes() -> Vec<(u8, &'static str, u8)> {
             draft(|book| (book.terms[0], book.rules[0]) = ([NAME, 12, 0], [12, 1])),
         ),
         (7, "a term taken out of the book, and not out of its rules", draft(|book| book.terms.truncate(5))),
-        (8, "sense and grade exchanged", draft(|book| book.memberships[0] = [0, 0, 3, 0])),
+        (8, "sense and grade exchanged, where the grade is above 1", draft(|book| book.memberships[0] = [0, 0, 3, 0])),
         (8, "a degree in percent, such as 75, in place of the grade", draft(|book| book.memberships[0][3] = 75)),
         (8, "N lowered, and a grade left above it", draft(|book| book.steps = 2)),
         (8, "individuals numbered from 1, with eight of them", draft(|book| book.memberships[1][0] = 8)),
@@ -272,10 +298,12 @@ fn causes_are_refused_with_their_number() {
     assert_eq!(check(&right().bytes()), 0);
     assert_eq!(work_out(&printed(), &SHEET, zegbiko::GRID), 0);
     let document = fs::read_to_string(NUMBERS).expect(NUMBERS);
-    let rows = table_under(&document, "| number | it says | usual causes |");
-    let written: BTreeSet<(u8, String)> = rows
-        .iter()
-        .flat_map(|row| row[2].split("; ").map(|cause| (row[0].parse().expect("a number"), cause.to_string())))
+    let written: BTreeSet<(u8, String)> = numbered(&document)
+        .into_iter()
+        .flat_map(|(number, text)| {
+            let causes = bullets_under(&document, &format!("**{number}: {text}"));
+            causes.into_iter().map(move |cause| (number, cause.to_string()))
+        })
         .collect();
     let mistakes = mistakes();
     for (number, cause, refused) in &mistakes {
@@ -300,13 +328,38 @@ fn unseen_mistakes_are_accepted() {
         ("left and right of a rule exchanged", vec![with(|book| book.rules[0].reverse())]),
         ("sense 0 for 1: \"at least\" for \"at most\"", vec![with(|book| book.memberships[1][2] = 0)]),
         (
+            "sense and grade of a membership claim exchanged, where the grade is 0 or 1",
+            vec![with(|book| book.memberships[1] = [1, 3, 0, 1])], // "at most 0"
+        ),
+        (
             "individual and term of a membership claim exchanged, where both are in range",
             vec![with(|book| book.memberships[1] = [3, 1, 1, 2])],
         ),
-        ("from and to of a link claim exchanged", vec![with(|book| book.links[0] = [0, 1, 0, 3])]),
+        (
+            "from and to of a link claim exchanged, or role and from",
+            vec![with(|book| book.links[0] = [0, 1, 0, 3]), with(|book| book.links[1] = [0, 1, 1, 2])],
+        ),
+        (
+            "a membership claim counted among the link claims, or the other way round: both have four bytes",
+            vec![
+                with(|book| {
+                    let claim = book.memberships.pop().expect("a claim");
+                    book.links.insert(0, claim);
+                }),
+                with(|book| book.memberships.push(book.links.remove(0))),
+            ],
+        ),
         (
             "a name's number in place of its term's, where there is such a term",
             vec![with(|book| (book.terms[0], book.rules[0]) = ([NAME, 5, 0], [5, 1]))],
+        ),
+        (
+            "terms numbered from 1 throughout, where that still gives terms of the book and earlier children",
+            vec![with(|book| {
+                book.terms[2..].copy_from_slice(&[[NOT, 1, 0], [SOME, 0, 2], [ALL, 1, 3], [AND, 3, 4]]);
+                book.rules = vec![[1, 2], [5, 4]];
+                book.memberships = vec![[0, 1, 0, 3], [1, 4, 1, 2]];
+            })],
         ),
         (
             "a term inserted before others, and the numbers in later terms, rules and claims left as they were",
@@ -332,6 +385,6 @@ fn unseen_mistakes_are_accepted() {
     let on_sheets = "on a sheet, links written by the element to and then the element from";
 
     let document = fs::read_to_string(NUMBERS).expect(NUMBERS);
-    let written = bullets_under(&document, "Some mistakes no check can see");
+    let written = bullets_under(&document, "## Mistakes that no check can see");
     assert_eq!(written, unseen.iter().map(|(mistake, _)| *mistake).chain([on_sheets]).collect::<Vec<_>>());
 }

@@ -135,7 +135,12 @@ impl Case<'_> {
         let (Ok(book), Ok(eliminated)) = (self.plain.book(), self.plain.eliminated()) else { unreachable!("decided") };
         let placed = if outcome == 1 { book.individuals() } else { 0 };
         let decision = zegbiko::Decision::of(&self.book).expect("decided");
-        assert_eq!(decision.outcome as usize, outcome, "{}", self.name());
+        assert_eq!(
+            (decision.outcome() as usize, decision.survivors()),
+            (outcome, eliminated.survivors.len()),
+            "{}",
+            self.name()
+        );
         assert!(decision.listed().eq(eliminated.survivors.keys().copied()), "{}", self.name());
         let seats = placement.chunks(2).map(|place| usize::from(place[0]) * 256 + usize::from(place[1]));
         assert!(decision.placed().eq(seats.take(placed)), "{}", self.name());

@@ -39,8 +39,7 @@ fn elements(program: &str, book: &[u8]) -> usize {
 
 /// Does it hold together, with more than 64 types?
 fn refused_18(book: &[u8]) -> bool {
-    Decision::of(book)
-        .is_ok_and(|decision| decision.outcome == Outcome::HoldsTogether && decision.listed().nth(64).is_some())
+    Decision::of(book).is_ok_and(|decision| decision.outcome() == Outcome::HoldsTogether && decision.survivors() > 64)
 }
 
 /// The benchmark's books with outcome 1.

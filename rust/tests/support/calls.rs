@@ -86,7 +86,7 @@ pub fn plain(book: &Plain, sheet: &[u8], call: Call, buffers: &mut [Buffer]) -> 
 pub fn wrapped(book: &[u8], sheet: &[u8], call: Call, buffers: &mut [Buffer]) -> Answer {
     let result = match (call, buffers) {
         (Call::Check, _) => zegbiko::check(book).map(|()| [0; 3]),
-        (Call::Count, _) => zegbiko::count(book).map(|candidates| [candidates as usize, 0, 0]),
+        (Call::Count, _) => zegbiko::count(book).map(|candidates| [candidates, 0, 0]),
         (Call::Decide { .. }, [marks, placement]) => {
             zegbiko::decide(book, marks.contents_mut(), placement.contents_mut())
                 .map(|decided| [decided.outcome as usize, decided.survivors, 0])
@@ -100,6 +100,7 @@ pub fn wrapped(book: &[u8], sheet: &[u8], call: Call, buffers: &mut [Buffer]) ->
             zegbiko::Verdict::BreaksRule { rule, element } => [1, rule, element],
             zegbiko::Verdict::BreaksMembership { claim } => [2, claim, 0],
             zegbiko::Verdict::BreaksLink { claim } => [3, claim, 0],
+            _ => unreachable!("a verdict that the tests do not know"),
         }),
         (Call::Grade { candidate, term }, _) => zegbiko::grade(book, candidate, term).map(|g| [g.into(), 0, 0]),
         (Call::Link { role, from, to }, _) => zegbiko::link(book, role, from, to).map(|link| [link.into(), 0, 0]),

@@ -17,3 +17,9 @@ pub fn bullets_under<'a>(document: &'a str, line_before: &str) -> Vec<&'a str> {
     let lines = document.lines().skip_while(|line| !line.starts_with(line_before));
     lines.skip_while(|line| !line.starts_with("- ")).map_while(|line| line.strip_prefix("- ")).collect()
 }
+
+/// What stands in the lines `**number: text**`.
+pub fn numbered(document: &str) -> Vec<(u8, &str)> {
+    let bold = document.lines().filter_map(|line| line.strip_prefix("**")?.strip_suffix("**")?.split_once(": "));
+    bold.map(|(number, text)| (number.parse().expect("a number"), text)).collect()
+}
