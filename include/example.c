@@ -26,7 +26,7 @@ static uint8_t marks[ZEGBIKO_MARKS], placement[ZEGBIKO_PLACEMENT], sheet[ZEGBIKO
 static size_t word(const uint8_t *at) { return (size_t)at[0] << 8 | at[1]; }
 
 static int refused(uint8_t refusal) {
-    printf("refused %d\n", refusal);
+    printf("refused %d: %s\n", refusal, zegbiko_refusal_text(refusal));
     return 1;
 }
 

@@ -1,5 +1,6 @@
 /*
- * Zegbiko: checks, decides and works out graded rule books in fuzzy ALC.
+ * Zegbiko: checks, decides and works out graded rule books in fuzzy ALC. docs/USING.md has the bytes of books and sheets ("The book", "The
+ * sheet"), and recipes.
  *
  * The library is target/staticlib/libzegbiko.a, made by `rt staticlib zegbiko` (x86-64 Linux). It calls nothing but memset and
  * memcpy.
@@ -14,6 +15,12 @@
  * In each answer `refusal` is 0 if the call is answered, else the number of the first check that says no (below), and then
  * every other field is 0. A refusal changes no buffer, but for 17 to 19: these come after deciding, so marks and placement are then
  * as zegbiko_decide leaves them.
+ *
+ * Words: N is the number of steps of the book's chain, byte 1 of the book; grades are 0 to N. The number of terms is in bytes 4 and 5. An
+ * interpretation has one element or more, and gives names and links their grades. A type is a list of grades, one for each term; a
+ * candidate is one as a number. A survivor is a candidate that marks say 1 of: exactly the types that an element has in some finite
+ * interpretation that meets the rules. A quantified term is one of kind "some" or "all". n is a sheet's number of elements; A, R and I are
+ * one more than the highest name, role and individual of the book's terms and claims.
  */
 #ifndef ZEGBIKO_H
 #define ZEGBIKO_H
@@ -37,6 +44,20 @@ extern "C" {
 #define ZEGBIKO_PLACEMENT 16   /* two bytes for each of 8 individuals; 16 are asked for with fewer too */
 #define ZEGBIKO_SHEET 33812    /* the longest sheet: 12 + 64 * 16 + 8 * 64 * 64 + 8 */
 #define ZEGBIKO_GRID 4096      /* the largest grid: 64 elements times 64 terms */
+#define ZEGBIKO_ELEMENTS 64    /* not bytes: the most elements of a sheet */
+
+/* ---- Kinds of term, and senses of a membership claim */
+
+#define ZEGBIKO_KIND_NAME 0
+#define ZEGBIKO_KIND_NOT 1
+#define ZEGBIKO_KIND_AND 2
+#define ZEGBIKO_KIND_OR 3
+#define ZEGBIKO_KIND_SOME 4
+#define ZEGBIKO_KIND_ALL 5
+#define ZEGBIKO_KIND_TOP 6
+#define ZEGBIKO_KIND_BOTTOM 7
+#define ZEGBIKO_AT_LEAST 0
+#define ZEGBIKO_AT_MOST 1
 
 /* ---- Refusal numbers; zegbiko_refusal_text says what each means, docs/NUMBERS.md what usually causes it */
 
@@ -77,7 +98,8 @@ static inline const char *zegbiko_refusal_text(uint8_t refusal) {
     case ZEGBIKO_REFUSED_STEPS: return "N, byte 1, is not 1 to 8";
     case ZEGBIKO_REFUSED_COUNTS: return "a count of terms, rules or claims is above 64";
     case ZEGBIKO_REFUSED_LAYOUT: return "an offset or the length disagrees with the layout";
-    case ZEGBIKO_REFUSED_TERMS: return "a term is not as described, or a name stands in two terms";
+    case ZEGBIKO_REFUSED_TERMS:
+        return "a term has a kind above 7, an operand out of range or an unused byte other than 0, or a name stands in two terms";
     case ZEGBIKO_REFUSED_RULES: return "a rule names a term that the book does not have";
     case ZEGBIKO_REFUSED_MEMBERSHIP_CLAIMS: return "a membership claim is out of range, or its grade is above N";
     case ZEGBIKO_REFUSED_LINK_CLAIMS: return "a link claim is out of range, or its grade is above N";
@@ -93,7 +115,7 @@ static inline const char *zegbiko_refusal_text(uint8_t refusal) {
     case ZEGBIKO_REFUSED_SURVIVORS: return "there are more than 64 survivors";
     case ZEGBIKO_REFUSED_SHEET_BUFFER: return "the sheet buffer is too short for the sheet";
     case ZEGBIKO_REFUSED_CANDIDATE: return "a candidate number is not below the number of candidates";
-    case ZEGBIKO_REFUSED_TERM_OR_ROLE: return "the term, or the role, is out of range";
+    case ZEGBIKO_REFUSED_TERM_OR_ROLE: return "the term is not one of the book's, or the role is above 7";
     default: return "no refusal number";
     }
 }
@@ -152,8 +174,9 @@ zegbiko_counted zegbiko_count(const uint8_t *book, size_t book_length);
 /*
  * Decides a book, after 1 to 12: the outcome and the number of survivors.
  * Mark byte c is set to 1 if candidate c survives, else to 0; mark bytes past the number of candidates are kept.
- * For outcome 1 the first two placement bytes for each individual are set to the candidate at which it is placed, the high byte
- * first; the bytes past them are kept, and for outcomes 2 and 3 all of them.
+ * For outcome 1 the placement bytes 2j and 2j + 1 are set to the candidate at which individual j is placed, the high byte first; the
+ * bytes past the last individual's are kept, and for outcomes 2 and 3 all of them. So bytes that are FF before the call and after it
+ * are no individual's: a candidate's number is below 16,384.
  */
 zegbiko_decided zegbiko_decide(const uint8_t *book, size_t book_length, uint8_t *marks, size_t marks_length, uint8_t *placement,
                                size_t placement_length);
@@ -183,7 +206,7 @@ zegbiko_worked zegbiko_work_out(const uint8_t *book, size_t book_length, const u
 zegbiko_graded zegbiko_grade(const uint8_t *book, size_t book_length, size_t candidate, size_t term);
 
 /*
- * The link from one candidate to another for a role, after 1 to 10, 20 and 21: the strongest that their grades allow. It is the
+ * The link from one candidate to another for a role of 0 to 7, after 1 to 10, 20 and 21: the strongest that their grades allow. It is the
  * greatest r of 0 to N such that
  *   - for each "all" term of the role, max(N - r, the child's grade in `to`) is at least the term's grade in `from`, and
  *   - for each "some" term of the role, min(r, the child's grade in `to`) is at most the term's grade in `from`.

@@ -1,8 +1,10 @@
-//! broken BOOK SHEET: every rule and claim of a book that a sheet breaks, not only the first; docs/USING.md says how.
+//! broken BOOK SHEET: every rule and claim of a book that a sheet breaks, not only the first; docs/USING.md says how. Status 1 if there is one. As a
+//! program of cargo it needs the package rust/ as a dependency; docs/examples/run builds it by rustc.
 
 use std::error::Error;
+use std::process::ExitCode;
 use std::slice::Chunks;
-use zegbiko::{work_out, GRID};
+use zegbiko::{work_out, AT_LEAST, GRID};
 
 fn word(bytes: &[u8], at: usize) -> usize {
     usize::from(bytes[at]) * 256 + usize::from(bytes[at + 1])
@@ -13,39 +15,51 @@ fn records(book: &[u8], entry: usize, size: usize) -> Chunks<'_, u8> {
     book[word(book, entry)..][..size * word(book, entry + 2)].chunks(size)
 }
 
-fn main() -> Result<(), Box<dyn Error>> {
-    let files: Vec<String> = std::env::args().skip(1).collect();
-    let [book, sheet] = &files[..] else { return Err("name a book and a sheet".into()) };
-    let (book, sheet) = (std::fs::read(book)?, std::fs::read(sheet)?);
+/// What is broken, in the order in which working out looks at it.
+fn broken(book: &[u8], sheet: &[u8]) -> Result<Vec<String>, zegbiko::Refusal> {
     let mut grid = [0; GRID];
-    work_out(&book, &sheet, &mut grid).map_err(|refusal| refusal.to_string())?; // so both are accepted, and the grid is filled
-
-    let (terms, elements) = (word(&book, 4), usize::from(sheet[2]));
-    let (links, individuals) = (word(&sheet, 8), word(&sheet, 10));
-    let grade = |element: usize, term: u8| grid[element * terms + usize::from(term)];
-    let element = |individual: u8| usize::from(sheet[individuals + usize::from(individual)]);
+    work_out(book, sheet, &mut grid)?; // so both are accepted, and the grid is filled
+    let (terms, elements) = (word(book, 4), usize::from(sheet[2]));
+    let (links, individuals) = (word(sheet, 8), word(sheet, 10));
+    let grade_at = |element: usize, term: u8| grid[element * terms + usize::from(term)];
+    let element_of = |individual: u8| usize::from(sheet[individuals + usize::from(individual)]);
     let link = |role: u8, from, to| sheet[links + (usize::from(role) * elements + from) * elements + to];
 
-    for (number, rule) in records(&book, 6, 2).enumerate() {
+    let mut lines = Vec::new();
+    for (number, rule) in records(book, 6, 2).enumerate() {
         for e in 0..elements {
-            let (left, right) = (grade(e, rule[0]), grade(e, rule[1]));
+            let (left, right) = (grade_at(e, rule[0]), grade_at(e, rule[1]));
             if left > right {
-                println!("rule {number} at element {e}: {left} above {right}");
+                lines.push(format!("rule {number} at element {e}: {left} above {right}"));
             }
         }
     }
-    for (number, claim) in records(&book, 10, 4).enumerate() {
-        let grade = grade(element(claim[0]), claim[1]);
-        let met = if claim[2] == 0 { grade >= claim[3] } else { grade <= claim[3] };
+    for (number, claim) in records(book, 10, 4).enumerate() {
+        let (is, claimed) = (grade_at(element_of(claim[0]), claim[1]), claim[3]);
+        let (met, sense) = if claim[2] == AT_LEAST { (is >= claimed, "at least") } else { (is <= claimed, "at most") };
         if !met {
-            println!("membership claim {number}: the grade is {grade}");
+            lines.push(format!("membership claim {number}: {is}, claimed {sense} {claimed}"));
         }
     }
-    for (number, claim) in records(&book, 14, 4).enumerate() {
-        let link = link(claim[0], element(claim[1]), element(claim[2]));
-        if link < claim[3] {
-            println!("link claim {number}: the link is {link}");
+    for (number, claim) in records(book, 14, 4).enumerate() {
+        let (is, claimed) = (link(claim[0], element_of(claim[1]), element_of(claim[2])), claim[3]);
+        if is < claimed {
+            lines.push(format!("link claim {number}: {is}, claimed at least {claimed}"));
         }
     }
-    Ok(())
+    Ok(lines)
+}
+
+fn main() -> Result<ExitCode, Box<dyn Error>> {
+    let files: Vec<String> = std::env::args().skip(1).collect();
+    let [book, sheet] = &files[..] else { return Err("name a book and a sheet".into()) };
+    match broken(&std::fs::read(book)?, &std::fs::read(sheet)?) {
+        Err(refusal) => println!("{refusal}"),
+        Ok(lines) if lines.is_empty() => {
+            println!("meets");
+            return Ok(ExitCode::SUCCESS);
+        }
+        Ok(lines) => println!("{}", lines.join("\n")),
+    }
+    Ok(ExitCode::FAILURE)
 }

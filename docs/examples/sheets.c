@@ -1,7 +1,7 @@
 /*
  * sheets BOOK SHEET: works out a sheet on a book, and prints the verdict and the grid. sheets BOOK: writes the sheet of the book's model first.
  *
- *     cc -I include -o sheets docs/examples/sheets.c target/staticlib/libzegbiko.a
+ *     cc -I include -o target/sheets docs/examples/sheets.c target/staticlib/libzegbiko.a
  */
 #include "zegbiko.h"
 #include <stdio.h>

@@ -63,6 +63,29 @@ pub const PLACEMENT: usize = 16;
 pub const SHEET: usize = 33812;
 /// A grid buffer that suffices for every sheet: 64 elements times 64 terms.
 pub const GRID: usize = 4096;
+/// The most elements of a sheet.
+pub const ELEMENTS: usize = 64;
+
+/// The kind of a term that is a name.
+pub const KIND_NAME: u8 = 0;
+/// The kind of "not".
+pub const KIND_NOT: u8 = 1;
+/// The kind of "and".
+pub const KIND_AND: u8 = 2;
+/// The kind of "or".
+pub const KIND_OR: u8 = 3;
+/// The kind of "some".
+pub const KIND_SOME: u8 = 4;
+/// The kind of "all".
+pub const KIND_ALL: u8 = 5;
+/// The kind of top.
+pub const KIND_TOP: u8 = 6;
+/// The kind of bottom.
+pub const KIND_BOTTOM: u8 = 7;
+/// The sense "at least" of a membership claim.
+pub const AT_LEAST: u8 = 0;
+/// The sense "at most" of a membership claim.
+pub const AT_MOST: u8 = 1;
 
 macro_rules! refusals {
     ($($name:ident = $number:literal, $question:literal, $statement:literal;)*) => {
@@ -119,7 +142,7 @@ refusals! {
         "an offset or the length disagrees with the layout";
     Terms = 6,
         "is every term as described, and does no name stand twice?",
-        "a term is not as described, or a name stands in two terms";
+        "a term has a kind above 7, an operand out of range or an unused byte other than 0, or a name stands in two terms";
     Rules = 7,
         "does every rule name two terms?",
         "a rule names a term that the book does not have";
@@ -164,7 +187,7 @@ refusals! {
         "a candidate number is not below the number of candidates";
     TermOrRole = 21,
         "is the term, or the role (0 to 7), in range?",
-        "the term, or the role, is out of range";
+        "the term is not one of the book's, or the role is above 7";
 }
 
 impl Refusal {

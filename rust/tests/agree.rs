@@ -99,6 +99,16 @@ fn without_brackets(line: &str) -> String {
     }
 }
 
+/// The header says what the library calls.
+#[test]
+fn what_the_library_needs() {
+    let output = Command::new("nm").args(["-u", env!("ZEGBIKO_LIBRARY")]).output().expect("nm");
+    let text = String::from_utf8(output.stdout).expect("text");
+    let needs: Lines = text.lines().filter_map(|line| line.trim().strip_prefix("U ")).map(str::to_string).collect();
+    assert_eq!(needs.iter().map(String::as_str).collect::<Vec<_>>(), ["memcpy", "memset"]);
+    assert!(read(HEADER).replace("\n * ", " ").contains("It calls nothing but memset and memcpy."));
+}
+
 /// Sizes, offsets and texts in C and C++ are Rust's, and a call from there is answered.
 #[test]
 fn programs_in_c_and_cplusplus() {

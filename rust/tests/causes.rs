@@ -138,6 +138,10 @@ fn mistakes() -> Vec<(u8, &'static str, u8)> {
             bytes[10..14].rotate_left(2);
             check(&bytes)
         }),
+        (4, "a sheet in place of the book", {
+            let sheet = [1, 4, 2, 2, 1, 1, 0, 12, 0, 16, 0, 20, 0, 0, 2, 3, 0, 3, 0, 0, 0]; // the paper's, in docs/USING.md
+            check(&sheet)
+        }),
         (5, "a newline at the end of the file", bytes(|book| book.push(b'\n'))),
         (5, "an offset written in decimal digits: 00 36 for byte 36, which is 00 24", {
             assert_eq!(right().bytes()[7], 36);
@@ -188,6 +192,11 @@ fn mistakes() -> Vec<(u8, &'static str, u8)> {
             assert_eq!(role, draft(|book| book.terms[0] = [NAME, 16, 0]));
             role
         }),
+        (6, "a byte behind top or bottom that is not 0", {
+            let top = draft(|book| book.terms.push([6, 0, 1]));
+            assert_eq!(top, draft(|book| book.terms.push([7, 1, 0])));
+            top
+        }),
         (6, "role and child exchanged where the child's number is above 7", {
             let book = with(|book| book.terms.extend([[NOT, 0, 0], [NOT, 0, 0], [NOT, 0, 0], [SOME, 0, 8]]));
             assert_eq!(check(&book.bytes()), 0);
@@ -207,6 +216,7 @@ fn mistakes() -> Vec<(u8, &'static str, u8)> {
         (9, "a degree in percent, such as 75, in place of the grade", draft(|book| book.links[0][3] = 75)),
         (9, "N lowered, and a grade left above it", draft(|book| (book.steps, book.memberships[0][3]) = (2, 1))),
         (9, "individuals numbered from 1, with eight of them", draft(|book| book.links[0][2] = 8)),
+        (9, "a role above 7", draft(|book| book.links[0][0] = 8)),
         (
             10,
             "names or quantified terms that no rule and no claim uses",
@@ -244,6 +254,17 @@ fn mistakes() -> Vec<(u8, &'static str, u8)> {
             assert_eq!(nothing, work_out(&printed(), &sheet(|sheet| sheet[2] = 0), zegbiko::GRID));
             nothing
         }),
+        (13, "a book or hexadecimal text in place of the sheet", {
+            let book = work_out(&printed(), &printed().bytes(), zegbiko::GRID);
+            assert_eq!(book, work_out(&printed(), &hexadecimal(&SHEET), zegbiko::GRID));
+            book
+        }),
+        (13, "R without a role that only a link claim names", {
+            let book = Draft { links: vec![[1, 0, 0, 0]], ..printed() };
+            let linked = [&[1, 2, 1, 1, 2, 1, 0, 12, 0, 13, 0, 15][..], &[1, 0, 0, 0]].concat();
+            assert_eq!(work_out(&book, &linked, zegbiko::GRID), 0);
+            work_out(&book, &SHEET, zegbiko::GRID)
+        }),
         (14, "a newline at the end of the file", work_out(&printed(), &sheet(|sheet| sheet.push(b'\n')), zegbiko::GRID)),
         (14, "an element added, and the offsets not moved", {
             let two = sheet(|sheet| (sheet[2], _) = (2, sheet.insert(12, 1)));
@@ -268,12 +289,12 @@ fn mistakes() -> Vec<(u8, &'static str, u8)> {
         (16, "in C, `sizeof` of a pointer in place of the array", work_out(&printed(), &five_elements, 8)),
         (
             17,
-            "rules and claims do not hold together: the outcome is 2 or 3",
+            "rules and claims do not hold together: the outcome is 3 where no mark is set, and else 2",
             write(&Draft { steps: 1, ..printed() }, zegbiko::SHEET),
         ),
         (
             18,
-            "names that few rules bind, so that most combinations of grades can occur (docs/USING.md, \"A model that fits on a sheet\")",
+            "names and quantified terms that few rules bind, so that most combinations of grades can occur (docs/USING.md, \"A model that fits on a sheet\")",
             write(&of_names(4, 3), zegbiko::SHEET),
         ),
         (19, "a buffer sized for another book", write(&printed(), 13)),
