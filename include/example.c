@@ -45,7 +45,7 @@ static int print_types(size_t candidates, size_t terms) {
     return 0;
 }
 
-/* A candidate number is below 16,384, so bytes that still hold FF are of no individual. */
+/* A candidate's number is below 16,384, so its high byte is never FF: two bytes that still begin with FF are no individual's. */
 static void print_placement(void) {
     for (size_t j = 0; j < 8 && placement[2 * j] != 0xFF; j++) printf("individual %zu type %zu\n", j, word(placement + 2 * j));
 }

@@ -18,9 +18,9 @@
  *
  * Words: N is the number of steps of the book's chain, byte 1 of the book; grades are 0 to N. The number of terms is in bytes 4 and 5. An
  * interpretation has one element or more, and gives names and links their grades. A type is a list of grades, one for each term; a
- * candidate is one as a number. A survivor is a candidate that marks say 1 of: exactly the types that an element has in some finite
- * interpretation that meets the rules. A quantified term is one of kind "some" or "all". n is a sheet's number of elements; A, R and I are
- * one more than the highest name, role and individual of the book's terms and claims.
+ * candidate is the number of a type. A survivor is a candidate whose mark is 1; the survivors are exactly the types that an element can
+ * have in some finite interpretation that meets the rules. A quantified term is one of kind "some" or "all". n is a sheet's number of
+ * elements; A, R and I are one more than the highest name, role and individual of the book's terms and claims, or 0 where there is none.
  */
 #ifndef ZEGBIKO_H
 #define ZEGBIKO_H
@@ -175,8 +175,8 @@ zegbiko_counted zegbiko_count(const uint8_t *book, size_t book_length);
  * Decides a book, after 1 to 12: the outcome and the number of survivors.
  * Mark byte c is set to 1 if candidate c survives, else to 0; mark bytes past the number of candidates are kept.
  * For outcome 1 the placement bytes 2j and 2j + 1 are set to the candidate at which individual j is placed, the high byte first; the
- * bytes past the last individual's are kept, and for outcomes 2 and 3 all of them. So bytes that are FF before the call and after it
- * are no individual's: a candidate's number is below 16,384.
+ * bytes past the last individual's are kept, and for outcomes 2 and 3 all of them. So where byte 2j is FF before the call and after it
+ * there is no individual j: a candidate's number is below 16,384, and its high byte below 40 hex.
  */
 zegbiko_decided zegbiko_decide(const uint8_t *book, size_t book_length, uint8_t *marks, size_t marks_length, uint8_t *placement,
                                size_t placement_length);
@@ -214,9 +214,9 @@ zegbiko_graded zegbiko_grade(const uint8_t *book, size_t book_length, size_t can
  *
  * With this link r, `to` is a witness of a quantified term in `from` when the term takes just its grade from it: "all" when
  * max(N - r, the child's grade in `to`) equals the term's grade in `from`, "some" when min(r, the child's grade in `to`) does. A link of
- * 0 can do that too. Each quantified term of a survivor has a witness among the survivors. Some survivors, at least one, among which
- * each quantified term of each has a witness are, with these links, an interpretation in which each has its grades; docs/USING.md
- * makes a sheet of such ("A model that fits on a sheet").
+ * 0 can do that too. Each quantified term of a survivor has a witness among the survivors. Take survivors, at least one, such that
+ * each quantified term of each has a witness among them: with these links they are an interpretation that meets the rules and in
+ * which each has its grades. docs/USING.md makes a sheet of such survivors ("A model that fits on a sheet").
  */
 zegbiko_graded zegbiko_link(const uint8_t *book, size_t book_length, uint8_t role, size_t from, size_t to);
 

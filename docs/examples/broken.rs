@@ -1,5 +1,5 @@
-//! broken BOOK SHEET: every rule and claim of a book that a sheet breaks, not only the first; docs/USING.md says how. Status 1 if there is one. As a
-//! program of cargo it needs the package rust/ as a dependency; docs/examples/run builds it by rustc.
+//! broken BOOK SHEET: every rule and claim of a book that a sheet breaks, not only the first; docs/USING.md says how. Status 1 if there is one, or
+//! if book or sheet is refused. As a program of cargo it needs the package rust/ as a dependency; docs/examples/run builds it by rustc.
 
 use std::error::Error;
 use std::process::ExitCode;

@@ -46,7 +46,7 @@ static int add_witness(size_t c, size_t t) {
         if (witnesses(c, t, members[m])) return 1;
     for (size_t d = 0; d < ZEGBIKO_MARKS; d++) /* marks past the candidates are 0, as they were at the start */
         if (marks[d] && witnesses(c, t, d)) return member(d) < ZEGBIKO_ELEMENTS;
-    return 0; /* does not happen: some survivor is a witness */
+    return 0; /* not reached: each quantified term of a survivor has a witness among the survivors */
 }
 
 /* Adds witnesses until each member has one for each quantified term; 0 if there is no room. */

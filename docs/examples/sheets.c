@@ -1,18 +1,24 @@
 /*
  * sheets BOOK SHEET: works out a sheet on a book, and prints the verdict and the grid. sheets BOOK: writes the sheet of the book's model first.
+ * Status 0 for a sheet that is worked out, whatever the verdict.
  *
  *     cc -I include -o target/sheets docs/examples/sheets.c target/staticlib/libzegbiko.a
  */
 #include "zegbiko.h"
 #include <stdio.h>
+#include <stdlib.h>
 
 static uint8_t book[ZEGBIKO_BOOK_MOST + 1], sheet[ZEGBIKO_SHEET + 1];
 static uint8_t marks[ZEGBIKO_MARKS], placement[ZEGBIKO_PLACEMENT], grid[ZEGBIKO_GRID];
 
 static size_t load(const char *file, uint8_t *bytes, size_t most) {
     FILE *f = fopen(file, "rb");
-    size_t length = f ? fread(bytes, 1, most, f) : 0;
-    if (f) fclose(f);
+    if (!f) {
+        perror(file);
+        exit(2);
+    }
+    size_t length = fread(bytes, 1, most, f);
+    fclose(f);
     return length;
 }
 

@@ -13,7 +13,8 @@
 //! individuals is exponential at worst, and nothing stops it: decide books of strangers in a process with a limit of time.
 //!
 //! The library is `target/staticlib/libzegbiko.a` of the repository, which `rt staticlib zegbiko` makes, or the one in the
-//! folder that `ZEGBIKO_LIB_DIR` names when this crate is built, from the folder in which cargo is called. x86-64 Linux.
+//! folder that `ZEGBIKO_LIB_DIR` names when this crate is built; a relative name is meant from the folder in which cargo is
+//! called. x86-64 Linux.
 //!
 //! The book printed in the specification grades A and "not A" alike, on two steps, and claims A at least 1 of individual 0:
 //!
@@ -440,9 +441,10 @@ pub fn grade(book: &[u8], candidate: usize, term: usize) -> Result<u8, Refusal> 
 ///
 /// With this link r, `to` is a *witness* of a quantified term in `from` when the term takes just its grade from it: "all"
 /// when max(N − r, the child's grade in `to`) equals the term's grade in `from`, "some" when min(r, the child's grade in
-/// `to`) does. A link of 0 can do that too. Each quantified term of a survivor has a witness among the survivors. Some
-/// survivors, at least one, among which each quantified term of each has a witness are, with these links, an
-/// interpretation in which each has its grades; `docs/USING.md` makes a sheet of such ("A model that fits on a sheet").
+/// `to`) does. A link of 0 can do that too. Each quantified term of a survivor has a witness among the survivors. Take
+/// survivors, at least one, such that each quantified term of each has a witness among them: with these links they are an
+/// interpretation that meets the rules and in which each has its grades. `docs/USING.md` makes a sheet of such survivors
+/// ("A model that fits on a sheet").
 pub fn link(book: &[u8], role: u8, from: usize, to: usize) -> Result<u8, Refusal> {
     // SAFETY: see `check`.
     let graded = unsafe { raw::zegbiko_link(book.as_ptr(), book.len(), role, from, to) };

@@ -107,9 +107,9 @@ fn mistakes() -> Vec<(u8, &'static str, u8)> {
     let mut more_names = printed();
     more_names.term(NAME, 1, 0);
     vec![
-        (1, "nothing was read: an empty file, a directory, or the book's name as an argument of `decide` and nothing on its standard input", check(&[])),
+        (1, "nothing was read: an empty file, a directory, a program before the pipe that failed (such as `docs/examples/bytes`), or the book's name as an argument of `decide` and nothing on its standard input", check(&[])),
         (1, "a book cut off before its head ends", bytes(|book| book.truncate(17))),
-        (1, "hexadecimal text in place of the bytes, of more than 850 characters: with remarks a book of 50 bytes has that", check(&hexadecimal(&long))),
+        (1, "hexadecimal text in place of the bytes, of more than 850 characters: with remarks a book of 50 bytes may have that", check(&hexadecimal(&long))),
         (1, "many books one behind the other in one file", check(&right().bytes().repeat(20))),
         (
             2,
@@ -138,7 +138,7 @@ fn mistakes() -> Vec<(u8, &'static str, u8)> {
             bytes[10..14].rotate_left(2);
             check(&bytes)
         }),
-        (4, "a sheet in place of the book", {
+        (4, "a sheet that has roles, in place of the book", {
             let sheet = [1, 4, 2, 2, 1, 1, 0, 12, 0, 16, 0, 20, 0, 0, 2, 3, 0, 3, 0, 0, 0]; // the paper's, in docs/USING.md
             check(&sheet)
         }),
@@ -361,7 +361,7 @@ fn unseen_mistakes_are_accepted() {
             vec![with(|book| book.links[0] = [0, 1, 0, 3]), with(|book| book.links[1] = [0, 1, 1, 2])],
         ),
         (
-            "a membership claim counted among the link claims, or the other way round: both have four bytes",
+            "a membership claim counted among the link claims, or the other way round: both have four bytes, and may be in range either way",
             vec![
                 with(|book| {
                     let claim = book.memberships.pop().expect("a claim");
