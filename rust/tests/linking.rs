@@ -14,10 +14,10 @@ fn directory(named: Option<&str>, caller: Option<&str>) -> Option<String> {
 
 #[test]
 fn the_caller_names_it_from_its_own_folder() {
-    assert_eq!(directory(Some("lib"), Some("/home/me")).as_deref(), Some("/home/me/lib"));
-    assert_eq!(directory(Some("/opt/lib"), Some("/home/me")).as_deref(), Some("/opt/lib"));
-    assert_eq!(directory(Some("/opt/lib"), None).as_deref(), Some("/opt/lib"));
+    assert_eq!(directory(Some("lib"), Some("/caller")).as_deref(), Some("/caller/lib"));
+    assert_eq!(directory(Some("/named/lib"), Some("/caller")).as_deref(), Some("/named/lib"));
+    assert_eq!(directory(Some("/named/lib"), None).as_deref(), Some("/named/lib"));
     assert_eq!(directory(Some("lib"), None), None);
     let usual = Path::new(env!("CARGO_MANIFEST_DIR")).join("../target/staticlib");
-    assert_eq!(directory(None, Some("/home/me")), Some(usual.display().to_string()));
+    assert_eq!(directory(None, Some("/caller")), Some(usual.display().to_string()));
 }

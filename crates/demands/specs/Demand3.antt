@@ -28,7 +28,7 @@ use Rattle.placement.proofs.Outcome as Outcome
 use Rattle.book.proofs.Reading.{accepts-valid}
 use Rattle.decider.proofs.Deciding as Deciding
 use Rattle.decider.proofs.Listed as Left
-use Rattle.demands.specs.Types.{types-differ}
+use Rattle.demands.specs.Types.{types-differ, listed-are-sound}
 
 -- "For every accepted book with at most 16,384 candidates and sufficient buffers": the marks buffer holds `marks` and the placement buffer
 -- `buffer`, whatever these are
@@ -101,11 +101,10 @@ module _ (b marks buffer : List ℕ) (d : Decidable b (length marks) (length buf
   -- "with the strongest links they are an interpretation in which each element has its listed type and which meets every rule": individuals
   -- "as placed or, without a placement, anywhere"
   pub listed-have-their-types : 0 < length listed → (element : ℕ → ℕ) (e : ℕ) → e < length listed → HasType G (typesIn G listed element) e (getD listed e 0)
-  listed-have-their-types = rw listed-is (λ _. Listed.sound-has G (B .rules) (w .well-formed) (survivorsOf B) (Survivors.survivors-sound G (B .rules)))
+  listed-have-their-types _ = Listed.sound-has G (B .rules) (w .well-formed) listed (listed-are-sound b marks buffer d)
 
   pub listed-meet-the-rules : 0 < length listed → (element : ℕ → ℕ) → ((j : ℕ) → element j < length listed) → RuleModel G (B .rules) (typesIn G listed element)
-  listed-meet-the-rules =
-      rw listed-is (λ h element. Listed.sound-meets G (B .rules) (w .well-formed) (survivorsOf B) (Survivors.survivors-sound G (B .rules)) element h (w .rules-in))
+  listed-meet-the-rules h element = Listed.sound-meets G (B .rules) (w .well-formed) listed (listed-are-sound b marks buffer d) element h (w .rules-in)
 
   -- ---- the placement
 
@@ -147,7 +146,12 @@ module _ (b marks buffer : List ℕ) (d : Decidable b (length marks) (length buf
       → HasType G (typesIn G xs element) e (getD xs e 0)
   sound-have-their-types = Listed.sound-has G (B .rules) (w .well-formed)
 
-  -- one that has the placed types among its members, and at least one member, meets every rule and claim, with the individuals as placed
+  -- one that has a member meets every rule, wherever individuals sit
+  pub sound-meet-the-rules : (xs : List ℕ) → Sound G (B .rules) (λ c. Mem c xs) → 0 < length xs → (element : ℕ → ℕ) → ((j : ℕ) → element j < length xs)
+      → RuleModel G (B .rules) (typesIn G xs element)
+  sound-meet-the-rules xs s h element = Listed.sound-meets G (B .rules) (w .well-formed) xs s element h (w .rules-in)
+
+  -- and one that has the placed types among its members also every claim, with the individuals as placed
   pub sound-meet-rules-and-claims : outcomeIn answer ≡ 1 → (xs : List ℕ) → Sound G (B .rules) (λ c. Mem c xs) → 0 < length xs
       → Each (λ c. Mem c xs) (placementIn buffer′ (individuals B))
       → RuleModel G (B .rules) (placedAmong B xs (placementIn buffer′ (individuals B)))

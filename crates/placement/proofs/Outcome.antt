@@ -140,9 +140,6 @@ module _ (B : Book) where
       pub placed-rules : RuleModel G (B .rules) (placedAmong B xs p)
       placed-rules = sound-meets G (B .rules) (w .well-formed) xs sound at h (w .rules-in) seated
 
-    survivors-are-sound : Sound G (B .rules) (λ c. Mem c (survivorsOf B))
-    survivors-are-sound = survivors-sound G (B .rules)
-
     -- outcome 1: the listed types, with the individuals as placed, meet everything
     pub outcome-model : outcome B ≡ 1 → (p : List ℕ) × (placement B ≡ some p) × RuleModel G (B .rules) (placedTypes B p) × MeetsClaims B (placedTypes B p)
         × ((j : ℕ) → j < individuals B → getD (survivorsOf B) (placedTypes B p .element j) 0 ≡ seat p j)
@@ -151,7 +148,7 @@ module _ (B : Book) where
         let p = u .1 .0 in
         let v = u .1 .2 in
         let xs = survivorsOf B in
-        let s = survivors-are-sound in
+        let s = survivors-sound G (B .rules) in
         (p, u .1 .1, placed-rules xs s (u .0) p (v .0), placed-claims xs s (u .0) p (v .0) (v .1), placed-seat xs s (u .0) p (v .0))
 
     -- the placement is the first with which the types' interpretation meets the claims
@@ -160,7 +157,7 @@ module _ (B : Book) where
     placement-first-met h p e =
         let f = placement-first p e in
         let xs = survivorsOf B in
-        let s = survivors-are-sound in
+        let s = survivors-sound G (B .rules) in
         record { drawn = f .drawn; passes = placed-claims xs s h p (f .drawn) (f .passes); foremost = λ q d m. f .foremost q d (claims-placed xs s h q d m) }
 
     -- THEOREM C: the outcome says which of three is the case
@@ -176,15 +173,8 @@ module _ (B : Book) where
         go (c ∷ cs) e none f = inr (inl (refl, rules-satisfiable .1 (omega (arith, ap length e)), λ m. let u = model-placed m in f (u .0) (u .1 .0) (u .1 .1)))
         go (c ∷ cs) e (some p) f =
             let h : 0 < length (survivorsOf B) = omega (arith, ap length e) in
-            let v : Placed p = (f .drawn, f .passes) in
-            inl (
-              refl,
-              (
-                placedTypes B p,
-                placed-rules (survivorsOf B) survivors-are-sound h p (v .0),
-                placed-claims (survivorsOf B) survivors-are-sound h p (v .0) (v .1),
-              ),
-            )
+            let s = survivors-sound G (B .rules) in
+            inl (refl, (placedTypes B p, placed-rules (survivorsOf B) s h p (f .drawn), placed-claims (survivorsOf B) s h p (f .drawn) (f .passes)))
 
     pub outcome-1 : (outcome B ≡ 1) ↔ Satisfiable B
     outcome-1 = go (outcome B) verdict
