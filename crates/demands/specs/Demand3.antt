@@ -79,14 +79,14 @@ module _ (b marks buffer : List ℕ) (d : Decidable b (length marks) (length buf
 
   -- "the types listed, once each and ascending, are exactly those that an element has in some finite interpretation on the chain that meets the
   -- rules": each that is listed occurs,
-  pub listed-exactly : (c : ℕ) → Mem c listed ↔ ((c < candidates G) × Occurs G (B .rules) c)
-  listed-exactly = rw listed-is (Listed.survives-realised G (B .rules) (w .well-formed) (w .rules-in))
+  pub listed-exactly : (c : ℕ) → Mem c listed ↔ ((c < candidates G) × Occurs B c)
+  listed-exactly = rw listed-is (Listed.survives-realised B w)
 
   -- whatever type occurs is listed,
-  pub every-type-is-listed : (I : Interpretation) → RuleModel G (B .rules) I → (e : ℕ) → e < I .size → (c : ℕ) × Mem c listed × HasType G I e c
+  pub every-type-is-listed : (I : Interpretation) → RuleModel B I → (e : ℕ) → e < I .size → (c : ℕ) × Mem c listed × HasType G I e c
   every-type-is-listed I m e h = (
     typeOf G I e,
-    rw listed-is (Complete.complete G (B .rules) (w .well-formed) (w .rules-in) I m e h),
+    rw listed-is (Complete.complete B w I m e h),
     Candidates.typeOf-has G (w .well-formed) I (m .on-chain) e h,
   )
 
@@ -103,14 +103,14 @@ module _ (b marks buffer : List ℕ) (d : Decidable b (length marks) (length buf
   pub listed-have-their-types : 0 < length listed → (element : ℕ → ℕ) (e : ℕ) → e < length listed → HasType G (typesIn G listed element) e (getD listed e 0)
   listed-have-their-types _ = Listed.sound-has G (B .rules) (w .well-formed) listed (listed-are-sound b marks buffer d)
 
-  pub listed-meet-the-rules : 0 < length listed → (element : ℕ → ℕ) → ((j : ℕ) → element j < length listed) → RuleModel G (B .rules) (typesIn G listed element)
-  listed-meet-the-rules h element = Listed.sound-meets G (B .rules) (w .well-formed) listed (listed-are-sound b marks buffer d) element h (w .rules-in)
+  pub listed-meet-the-rules : 0 < length listed → (element : ℕ → ℕ) → ((j : ℕ) → element j < length listed) → RuleModel B (typesIn G listed element)
+  listed-meet-the-rules h element = Listed.sound-meets B w listed (listed-are-sound b marks buffer d) element h
 
   -- ---- the placement
 
   -- "and, when the verdict is yes, with the individuals as placed, every claim": as the buffers say
   module _ (yes-said : outcomeIn answer ≡ 1) where
-    model : (p : List ℕ) × (placement B ≡ some p) × RuleModel G (B .rules) (placedTypes B p) × MeetsClaims B (placedTypes B p)
+    model : (p : List ℕ) × (placement B ≡ some p) × RuleModel B (placedTypes B p) × MeetsClaims B (placedTypes B p)
         × ((j : ℕ) → j < individuals B → getD (survivorsOf B) (placedTypes B p .element j) 0 ≡ seat p j)
     model = Outcome.outcome-model B w (sym outcome-is ∙ yes-said)
 
@@ -121,7 +121,7 @@ module _ (b marks buffer : List ℕ) (d : Decidable b (length marks) (length buf
     found-is : found ≡ placedTypes B (model .0)
     found-is = Left.interpretation-is b marks buffer d (model .0) (model .1)
 
-    pub found-meets-the-rules : RuleModel G (B .rules) found
+    pub found-meets-the-rules : RuleModel B found
     found-meets-the-rules = rw found-is (model .2)
 
     pub found-meets-the-claims : MeetsClaims B found
@@ -148,13 +148,13 @@ module _ (b marks buffer : List ℕ) (d : Decidable b (length marks) (length buf
 
   -- one that has a member meets every rule, wherever individuals sit
   pub sound-meet-the-rules : (xs : List ℕ) → Sound G (B .rules) (λ c. Mem c xs) → 0 < length xs → (element : ℕ → ℕ) → ((j : ℕ) → element j < length xs)
-      → RuleModel G (B .rules) (typesIn G xs element)
-  sound-meet-the-rules xs s h element = Listed.sound-meets G (B .rules) (w .well-formed) xs s element h (w .rules-in)
+      → RuleModel B (typesIn G xs element)
+  sound-meet-the-rules xs s h element = Listed.sound-meets B w xs s element h
 
   -- and one that has the placed types among its members also every claim, with the individuals as placed
   pub sound-meet-rules-and-claims : outcomeIn answer ≡ 1 → (xs : List ℕ) → Sound G (B .rules) (λ c. Mem c xs) → 0 < length xs
       → Each (λ c. Mem c xs) (placementIn buffer′ (individuals B))
-      → RuleModel G (B .rules) (placedAmong B xs (placementIn buffer′ (individuals B)))
+      → RuleModel B (placedAmong B xs (placementIn buffer′ (individuals B)))
       × MeetsClaims B (placedAmong B xs (placementIn buffer′ (individuals B)))
   sound-meet-rules-and-claims yes-said xs s h =
       let u = Outcome.outcome-placed B (sym outcome-is ∙ yes-said) .1 in
@@ -171,7 +171,7 @@ module _ (b marks buffer : List ℕ) (d : Decidable b (length marks) (length buf
   survivors-are-counted = Left.counted-is b marks buffer d
 
   -- "one mark byte per candidate (1 survivor, 0 not)": 1 if and only if the candidate's type occurs, and else 0
-  pub marks-say-what-occurs : (c : ℕ) → c < candidates G → (getD marks′ c 0 ≡ 1) ↔ Occurs G (B .rules) c
+  pub marks-say-what-occurs : (c : ℕ) → c < candidates G → (getD marks′ c 0 ≡ 1) ↔ Occurs B c
   marks-say-what-occurs c h =
       let u = Left.mark-listed b marks buffer d c h in
       (λ e. listed-exactly c .0 (u .0 e) .1, λ o. u .1 (listed-exactly c .1 (h, o)))

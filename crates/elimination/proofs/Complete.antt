@@ -2,18 +2,16 @@
 -- two elements is never above the link of their types.
 -- Assumes nothing.
 use mathlib.Core.Path.{_≡_, refl, sym, subst, _∙_}
-use mathlib.Core.List.{List}
 use Prim.Native.Nat.{ℕ, _≤_, _<_}
 use native.Mathlib.Omega.{arith}
 use lib.ListN.{length}
-use Rattle.chain.specs.Lists.{Each}
 use Rattle.chain.specs.Connectives.{Quantifier, through, Within, over}
 use Rattle.chain.proofs.Lists.{each-map₂}
 use Rattle.chain.proofs.Connectives.{within-antisymm, through-le, through-mono, over-upper, over-attained}
 use Rattle.semantics.specs.Terms.{term}
 use Rattle.semantics.specs.Quantified.{quantified}
 use Rattle.semantics.specs.Interpretations.{Grading, WellFormed, Interpretation, OnChain}
-use Rattle.semantics.specs.Books.{Rule, RuleInRange, RuleModel}
+use Rattle.semantics.specs.Books.{Book, Valid, RuleModel}
 use Rattle.semantics.proofs.Terms.{child-lt}
 use Rattle.semantics.proofs.Interpretations.{taken, gradeAt-quantified, gradeAt-le}
 use Rattle.semantics.proofs.Links.{allows-own}
@@ -24,7 +22,13 @@ use Rattle.types.proofs.Links.{link-most, link-le, link-bounded}
 use Rattle.elimination.specs.Survivors.{Fits, Sound, Survives, Witnesses}
 use Rattle.elimination.proofs.Survivors.{survivors-largest}
 
-module _ (G : Grading) (rs : List Rule) (w : WellFormed G) (in-range : Each (RuleInRange G) rs) (I : Interpretation) (m : RuleModel G rs I) where
+module _ (B : Book) (v : Valid B) (I : Interpretation) (m : RuleModel B I) where
+  abbrev G : Grading
+  G = B .grading
+
+  w : WellFormed G
+  w = v .well-formed
+
   abbrev p : OnChain (G .steps) I
   p = m .on-chain
 
@@ -58,18 +62,18 @@ module _ (G : Grading) (rs : List Rule) (w : WellFormed G) (in-range : Each (Rul
       (through-mono (G .steps) (G .connectives) (w .lawful) q _ _ _ (link-of-types r e (u .0) h (u .1)) (link-le G r c d) (gradeAt-le G I w p x j (u .0) (u .1))) in
       (d, (u .0, u .1, refl), within-antisymm q less (link-bounded G r c d w i l q x t))
 
-  realised-fits : (e : ℕ) → e < I .size → Fits G rs Realised (typeOf G I e)
+  realised-fits : (e : ℕ) → e < I .size → Fits G (B .rules) Realised (typeOf G I e)
   realised-fits e h = (
-    each-map₂ (λ q n g. rw (← typeOf-has G w I p e h (q .left) (n .0), ← typeOf-has G w I p e h (q .right) (n .1)) (g e h)) rs in-range (m .rules-met),
+    each-map₂ (λ q n g. rw (← typeOf-has G w I p e h (q .left) (n .0), ← typeOf-has G w I p e h (q .right) (n .1)) (g e h)) (B .rules) (v .rules-in) (m .rules-met),
     witnessed e h,
   )
 
-  realised-sound : Sound G rs Realised
+  realised-sound : Sound G (B .rules) Realised
   realised-sound = record {
     candidate = λ c u. subst (λ (d : ℕ). d < candidates G) (u .2) (typeOf-lt G w I p (u .0) (u .1));
-    fits = λ c u. subst (Fits G rs Realised) (u .2) (realised-fits (u .0) (u .1));
+    fits = λ c u. subst (Fits G (B .rules) Realised) (u .2) (realised-fits (u .0) (u .1));
   }
 
   -- THEOREM A (with `typeOf-has` and `typeOf-only` of `types`)
-  pub complete : (e : ℕ) → e < I .size → Survives G rs (typeOf G I e)
-  complete e h = survivors-largest G rs Realised realised-sound (typeOf G I e) (e, h, refl)
+  pub complete : (e : ℕ) → e < I .size → Survives G (B .rules) (typeOf G I e)
+  complete e h = survivors-largest G (B .rules) Realised realised-sound (typeOf G I e) (e, h, refl)

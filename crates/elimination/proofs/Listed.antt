@@ -8,14 +8,14 @@ use Prim.Native.Nat.{ℕ, _≤_, _<_}
 use native.Mathlib.Omega.{arith}
 use lib.ListN.{length, getD}
 use Rattle.chain.specs.Search.{First}
-use Rattle.chain.specs.Lists.{Mem, Each}
+use Rattle.chain.specs.Lists.{Mem}
 use Rattle.chain.specs.Connectives.{Quantifier, existential, universal, through, Within, over}
 use Rattle.chain.proofs.Lists.{mem-at, at-mem, each-mem, mem-each}
 use Rattle.chain.proofs.Connectives.{within-antisymm, over-upper, over-least}
 use Rattle.semantics.specs.Terms.{Term, name, not, and, or, some, all, top, bottom, term, local}
 use Rattle.semantics.specs.Quantified.{quantified}
 use Rattle.semantics.specs.Interpretations.{Grading, WellFormed, OnChain, atElements}
-use Rattle.semantics.specs.Books.{Rule, RuleInRange, RuleModel}
+use Rattle.semantics.specs.Books.{Rule, Book, Valid, RuleInRange, RuleModel}
 use Rattle.semantics.proofs.Interpretations.{gradeAt-unique}
 use Rattle.types.specs.Candidates.{gradeIn, named?, bearer, candidates, HasType}
 use Rattle.types.specs.Links.{link}
@@ -64,46 +64,53 @@ module _ (G : Grading) (rs : List Rule) (w : WellFormed G) (xs : List ℕ) (soun
       go i l e h top t = gradeIn-local G w (at e) i l top t
       go i l e h bottom t = gradeIn-local G w (at e) i l bottom t
 
-  module _ (some-left : 0 < n) (in-range : Each (RuleInRange G) rs) (seated : (j : ℕ) → seat j < n) where
-    sound-on-chain : OnChain (G .steps) (typesIn G xs seat)
-    sound-on-chain = record {
-      inhabited = some-left;
-      names-le = λ a e h. go e (bearer (G .terms) a);
-      links-le = λ r e f g h. link-le G r (at e) (at f);
-      element-lt = seated;
-    }
-      where
-        go : (e : ℕ) {a : ℕ} (v : First (named? (G .terms) a) (length (G .terms))) → ⊎-elim (λ u. gradeIn G (at e) (u .0)) (λ _. 0) v ≤ G .steps
-        go e (inl u) = gradeIn-le G w (at e) (u .0) (u .1)
-        go e (inr f) = omega arith
+-- .. and one that has a member meets every rule, wherever the individuals sit
+module _ (B : Book) (w : Valid B) (xs : List ℕ) (sound : Sound (B .grading) (B .rules) (λ c. Mem c xs)) (seat : ℕ → ℕ) (some-left : 0 < length xs)
+    (seated : (j : ℕ) → seat j < length xs) where
+  abbrev G : Grading
+  G = B .grading
 
-    -- .. and the interpretation meets every rule
-    pub sound-meets : RuleModel G rs (typesIn G xs seat)
-    sound-meets = record {
-      on-chain = sound-on-chain;
-      rules-met = mem-each rs (λ q m e h.
-          let k = each-mem (RuleInRange G) rs in-range q m in
-          rw (sound-has e h (q .left) (k .0), sound-has e h (q .right) (k .1))
-          (each-mem (λ o. gradeIn G (at e) (o .left) ≤ gradeIn G (at e) (o .right)) rs (sound .fits (at e) (mem-at xs e 0 h) .0) q m));
-    }
+  sound-on-chain : OnChain (G .steps) (typesIn G xs seat)
+  sound-on-chain = record {
+    inhabited = some-left;
+    names-le = λ a e h. go e (bearer (G .terms) a);
+    links-le = λ r e f g h. link-le G r (getD xs e 0) (getD xs f 0);
+    element-lt = seated;
+  }
+    where
+      go : (e : ℕ) {a : ℕ} (v : First (named? (G .terms) a) (length (G .terms))) → ⊎-elim (λ u. gradeIn G (getD xs e 0) (u .0)) (λ _. 0) v ≤ G .steps
+      go e (inl u) = gradeIn-le G (w .well-formed) (getD xs e 0) (u .0) (u .1)
+      go e (inr f) = omega arith
+
+  pub sound-meets : RuleModel B (typesIn G xs seat)
+  sound-meets = record {
+    on-chain = sound-on-chain;
+    rules-met = mem-each (B .rules) (λ q m e h.
+        let k = each-mem (RuleInRange G) (B .rules) (w .rules-in) q m in
+        let has = sound-has G (B .rules) (w .well-formed) xs sound seat e h in
+        rw (has (q .left) (k .0), has (q .right) (k .1))
+        (each-mem (λ o. gradeIn G (getD xs e 0) (o .left) ≤ gradeIn G (getD xs e 0) (o .right)) (B .rules) (sound .fits (getD xs e 0) (mem-at xs e 0 h) .0) q m));
+  }
 
 -- ---- with Theorem A: the survivors are exactly the types that an element has in some model of the rules
 
-pub survives-realised : (G : Grading) (rs : List Rule) → WellFormed G → Each (RuleInRange G) rs → (c : ℕ) → Survives G rs c ↔ ((c < candidates G) × Occurs G rs c)
-survives-realised G rs w in-range c = (
+pub survives-realised : (B : Book) → Valid B → (c : ℕ) → Survives (B .grading) (B .rules) c ↔ ((c < candidates (B .grading)) × Occurs B c)
+survives-realised B w c = (
   λ m.
-      let u = at-mem (survivors G rs) 0 c m in
-      let h : 0 < length (survivors G rs) = omega (arith, u .1) in
-      let I = typesIn G (survivors G rs) (λ _. 0) in
-      let s = survivors-sound G rs in (
+      let G = B .grading in
+      let xs = survivors G (B .rules) in
+      let u = at-mem xs 0 c m in
+      let h : 0 < length xs = omega (arith, u .1) in
+      let s = survivors-sound G (B .rules) in (
         s .candidate c m,
         (
-          I,
-          sound-meets G rs w (survivors G rs) s (λ _. 0) h in-range (λ _. h),
+          typesIn G xs (λ _. 0),
+          sound-meets B w xs s (λ _. 0) h (λ _. h),
           u .0,
           u .1,
-          subst (HasType G I (u .0)) (u .2) (sound-has G rs w (survivors G rs) s (λ _. 0) (u .0) (u .1)),
+          subst (HasType G (typesIn G xs (λ _. 0)) (u .0)) (u .2) (sound-has G (B .rules) (w .well-formed) xs s (λ _. 0) (u .0) (u .1)),
         ),
       ),
-  λ (l, (I, m, e, h, t)). subst (Survives G rs) (sym (typeOf-only G w I (m .on-chain) e h c l t)) (complete G rs w in-range I m e h),
+  λ (l, (I, m, e, h, t)).
+      subst (Survives (B .grading) (B .rules)) (sym (typeOf-only (B .grading) (w .well-formed) I (m .on-chain) e h c l t)) (complete B w I m e h),
 )

@@ -5,7 +5,7 @@ use mathlib.Core.List.{List}
 use Prim.Native.Nat.{ℕ, _<_}
 use lib.ListN.{length, getD}
 use Rattle.semantics.specs.Interpretations.{Grading, Interpretation}
-use Rattle.semantics.specs.Books.{Rule, RuleModel}
+use Rattle.semantics.specs.Books.{Book, RuleModel}
 use Rattle.types.specs.Candidates.{bearer, gradeIn, HasType}
 use Rattle.types.specs.Links.{link}
 
@@ -20,5 +20,5 @@ typesIn G xs seat = record {
 }
 
 -- an element has candidate c's type in some finite interpretation on the chain that meets the rules
-abbrev pub Occurs : Grading → List Rule → (c : ℕ) → Type 0
-Occurs G rs c = (I : Interpretation) × RuleModel G rs I × (e : ℕ) × (e < I .size) × HasType G I e c
+abbrev pub Occurs : Book → (c : ℕ) → Type 0
+Occurs B c = (I : Interpretation) × RuleModel B I × (e : ℕ) × (e < I .size) × HasType (B .grading) I e c

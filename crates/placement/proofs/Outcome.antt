@@ -72,10 +72,10 @@ module _ (B : Book) where
     -- the rules have a model if and only if a candidate survives
     pub rules-satisfiable : RulesSatisfiable B ↔ (0 < length (survivorsOf B))
     rules-satisfiable = (
-      λ m. omega (arith, at-mem (survivorsOf B) 0 (typeOf G (m .0) 0) (complete G (B .rules) (w .well-formed) (w .rules-in) (m .0) (m .1) 0 (m .1 .on-chain .inhabited)) .1),
+      λ m. omega (arith, at-mem (survivorsOf B) 0 (typeOf G (m .0) 0) (complete B w (m .0) (m .1) 0 (m .1 .on-chain .inhabited)) .1),
       λ h. (
         typesIn G (survivorsOf B) (λ _. 0),
-        sound-meets G (B .rules) (w .well-formed) (survivorsOf B) (survivors-sound G (B .rules)) (λ _. 0) h (w .rules-in) (λ _. h),
+        sound-meets B w (survivorsOf B) (survivors-sound G (B .rules)) (λ _. 0) h (λ _. h),
       ),
     )
 
@@ -88,14 +88,14 @@ module _ (B : Book) where
         let n = individuals B in (
           table t n,
           (
-            (length-table t n, each-table (Survives G (B .rules)) t n (λ j _. complete G (B .rules) (w .well-formed) (w .rules-in) I (m .1) (I .element j) (c .element-lt j))),
+            (length-table t n, each-table (Survives G (B .rules)) t n (λ j _. complete B w I (m .1) (I .element j) (c .element-lt j))),
             (
               each-map₃ {R = MeetsMembership G I} {S = HoldsMembership B (seat (table t n))} (λ q l u h.
                   rw (getD-table t n (q .individual) 0 u, ← typeOf-has G (w .well-formed) I c (I .element (q .individual)) (c .element-lt (q .individual)) (q .term) l) h)
                   (B .memberships) (w .terms-in) members-in (m .2 .memberships-met),
               each-map₂ {Q = MeetsLink I} {R = HoldsLink B (seat (table t n))} (λ q u h.
                   rw (getD-table t n (q .source) 0 (omega arith), getD-table t n (q .target) 0 (omega arith))
-                  (le-trans h (link-of-types G (B .rules) (w .well-formed) (w .rules-in) I (m .1) (q .role) (I .element (q .source)) (I .element (q .target)) (c .element-lt (q .source)) (c .element-lt (q .target)))))
+                  (le-trans h (link-of-types B w I (m .1) (q .role) (I .element (q .source)) (I .element (q .target)) (c .element-lt (q .source)) (c .element-lt (q .target)))))
                   (B .links) links-in (m .2 .links-met),
             ),
           ),
@@ -137,11 +137,11 @@ module _ (B : Book) where
             rw (← placed-seat (q .source) (omega arith), ← placed-seat (q .target) (omega arith)) g) (B .links) links-in (m .links-met),
       )
 
-      pub placed-rules : RuleModel G (B .rules) (placedAmong B xs p)
-      placed-rules = sound-meets G (B .rules) (w .well-formed) xs sound at h (w .rules-in) seated
+      pub placed-rules : RuleModel B (placedAmong B xs p)
+      placed-rules = sound-meets B w xs sound at h seated
 
     -- outcome 1: the listed types, with the individuals as placed, meet everything
-    pub outcome-model : outcome B ≡ 1 → (p : List ℕ) × (placement B ≡ some p) × RuleModel G (B .rules) (placedTypes B p) × MeetsClaims B (placedTypes B p)
+    pub outcome-model : outcome B ≡ 1 → (p : List ℕ) × (placement B ≡ some p) × RuleModel B (placedTypes B p) × MeetsClaims B (placedTypes B p)
         × ((j : ℕ) → j < individuals B → getD (survivorsOf B) (placedTypes B p .element j) 0 ≡ seat p j)
     outcome-model e =
         let u = outcome-placed e in

@@ -119,9 +119,9 @@ abbrev pub MeetsLink : Interpretation → LinkClaim → Type 0
 MeetsLink I q = q .grade ≤ I .links (q .role) (I .element (q .source)) (I .element (q .target))
 
 -- "A model of the rules is a finite interpretation on the book's chain that meets every rule."
-pub record RuleModel (G : Grading) (rs : List Rule) (I : Interpretation) : Type 0 where
-  pub on-chain : OnChain (G .steps) I
-  pub rules-met : Each (MeetsRule G I) rs
+pub record RuleModel (B : Book) (I : Interpretation) : Type 0 where
+  pub on-chain : OnChain (B .grading .steps) I
+  pub rules-met : Each (MeetsRule (B .grading) I) (B .rules)
 
 pub record MeetsClaims (B : Book) (I : Interpretation) : Type 0 where
   pub memberships-met : Each (MeetsMembership (B .grading) I) (B .memberships)
@@ -129,8 +129,8 @@ pub record MeetsClaims (B : Book) (I : Interpretation) : Type 0 where
 
 -- the rules have a model
 abbrev pub RulesSatisfiable : Book → Type 0
-RulesSatisfiable B = (I : Interpretation) × RuleModel (B .grading) (B .rules) I
+RulesSatisfiable B = (I : Interpretation) × RuleModel B I
 
 -- some finite non-empty interpretation on the chain meets every rule and every claim
 abbrev pub Satisfiable : Book → Type 0
-Satisfiable B = (I : Interpretation) × RuleModel (B .grading) (B .rules) I × MeetsClaims B I
+Satisfiable B = (I : Interpretation) × RuleModel B I × MeetsClaims B I

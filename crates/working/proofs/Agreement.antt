@@ -80,7 +80,7 @@ module _ (B : Book) (M K : Interpretation) (v : Valid B) (same : Agree (nameCoun
         ) h
 
   -- if the one meets the rules and claims, so does the other
-  pub agree-meets : RuleModel G (B .rules) M → MeetsClaims B M → verdictOf B K ≡ Meets
+  pub agree-meets : RuleModel B M → MeetsClaims B M → verdictOf B K ≡ Meets
   unfolding roleCount individuals
   agree-meets r c =
       says-verdict B K Meets (

@@ -122,7 +122,7 @@ module _ (B : Book) where
       ap (λ (o : Option (List ℕ)). sheetBytes (B .grading .steps) (nameCount B) (roleCount B) (individuals B) (placedTypes B (seatsOf o))) e
 
   module _ (w : Valid B) (holds : outcome B ≡ 1) where
-    found : (p : List ℕ) × (placement B ≡ some p) × RuleModel (B .grading) (B .rules) (placedTypes B p) × MeetsClaims B (placedTypes B p)
+    found : (p : List ℕ) × (placement B ≡ some p) × RuleModel B (placedTypes B p) × MeetsClaims B (placedTypes B p)
     found = let u = outcome-model B w holds in (u .0, u .1, u .2, u .3)
 
     -- the checks 13 to 15 say yes to it
