@@ -202,6 +202,20 @@ module _ {A : Type 0} where
         go (yes q) (inr l) = inr (omega arith)
         go (no n) h = inr (omega (arith, keep-le xs))
 
+-- two tests that pass the same members keep the same
+pub keep-same : {A : Type 0} {P Q : A → Type 0} (p : (x : A) → Dec (P x)) (q : (x : A) → Dec (Q x)) (xs : List A)
+    → ((x : A) → Mem x xs → P x ↔ Q x) → keep p xs ≡ keep q xs
+unfolding keep
+keep-same p q [] h = refl
+keep-same {A} {P} {Q} p q (x ∷ xs) h = go (p x) (q x) (keep-same p q xs (λ y m. h y (inr m)))
+  where
+    go : (d : Dec (P x)) (e : Dec (Q x)) → keep p xs ≡ keep q xs
+        → ite {C = List A} d (x ∷ keep p xs) (keep p xs) ≡ ite {C = List A} e (x ∷ keep q xs) (keep q xs)
+    go (yes a) (yes b) ih = ap (λ (ys : List A). x ∷ ys) ih
+    go (yes a) (no n) ih = absurd (n (h x (inl refl) .0 a))
+    go (no n) (yes b) ih = absurd (n (h x (inl refl) .1 b))
+    go (no n) (no m) ih = ih
+
 -- the highest of a table, from other tables entry by entry
 pub highest-same : {A B : Type 0} (f : A → ℕ) (g : B → ℕ) (a : ℕ → A) (b : ℕ → B) (n : ℕ) → ((i : ℕ) → f (a i) ≡ g (b i))
     → highest f (table a n) ≡ highest g (table b n)

@@ -2,12 +2,18 @@
 -- tie a test to its meaning.
 -- Assumes nothing.
 use mathlib.Core.Path.{_≡_}
+use mathlib.Core.Logic.{_⊎_, inl, inr, ⊎-elim}
 use mathlib.Core.Bool.{Bool, true, false}
 
 unfoldable pub dec-and : {A B : Type 0} → Dec A → Dec B → Dec (A × B)
 dec-and (yes a) (yes b) = yes (a, b)
 dec-and (yes a) (no n) = no (λ p. n (p .1))
 dec-and (no n) d = no (λ p. n (p .0))
+
+unfoldable pub dec-or : {A B : Type 0} → Dec A → Dec B → Dec (A ⊎ B)
+dec-or (yes a) d = yes (inl a)
+dec-or (no n) (yes b) = yes (inr b)
+dec-or (no n) (no m) = no (λ s. ⊎-elim n m s)
 
 unfoldable pub dec-imp : {A B : Type 0} → Dec A → Dec B → Dec (A → B)
 dec-imp (yes a) (yes b) = yes (λ _. b)

@@ -7,14 +7,16 @@ use native.Mathlib.Omega.{arith}
 use lib.ListN.{length}
 use Rattle.chain.specs.Connectives.{Quantifier, through, Within, over}
 use Rattle.chain.proofs.Lists.{each-map₂}
-use Rattle.chain.proofs.Connectives.{within-antisymm, through-le, through-mono, over-upper, over-attained}
+use Rattle.chain.proofs.Connectives.{within-trans, within-antisymm, through-le, through-mono, over-upper, over-attained}
 use Rattle.semantics.specs.Terms.{term}
 use Rattle.semantics.specs.Quantified.{quantified}
 use Rattle.semantics.specs.Interpretations.{Grading, WellFormed, Interpretation, OnChain}
 use Rattle.semantics.specs.Books.{Book, Valid, RuleModel}
 use Rattle.semantics.proofs.Terms.{child-lt}
 use Rattle.semantics.proofs.Interpretations.{taken, gradeAt-quantified, gradeAt-le}
-use Rattle.semantics.proofs.Links.{allows-own}
+use Rattle.semantics.specs.Links.{Governs}
+use Rattle.semantics.proofs.Roles.{pairs-rise}
+use Rattle.semantics.proofs.Governs.{governs-upward}
 use Rattle.types.specs.Candidates.{gradeIn, candidates, typeOf}
 use Rattle.types.specs.Links.{link}
 use Rattle.types.proofs.Candidates.{typeOf-lt, typeOf-has}
@@ -39,10 +41,18 @@ module _ (B : Book) (v : Valid B) (I : Interpretation) (m : RuleModel B I) where
       → gradeIn G (typeOf G I e) i ≡ over q (G .steps) (taken G I q r x e) (I .size)
   type-quantified i l q r x t e h = sym (typeOf-has G w I p e h i l) ∙ gradeAt-quantified G I w i l q r x t e
 
+  -- the terms of a role that is above bound its link too: "the lower role's link never exceeds the upper's"
+  links-rise : (s r e f : ℕ) → e < I .size → f < I .size → Governs G s r → I .links r e f ≤ I .links s e f
+  links-rise s r e f he hf g = pairs-rise (B .pairs) I (m .pairs-met) r s (governs-upward G (B .pairs) (v .pairs-in) (v .ranked) s r .0 g) e f he hf
+
   pub link-of-types : (r e f : ℕ) → e < I .size → f < I .size → I .links r e f ≤ link G r (typeOf G I e) (typeOf G I f)
   link-of-types r e f he hf =
-      link-most G r (typeOf G I e) (typeOf G I f) (I .links r e f) (p .links-le r e f he hf) (allows-own G r _ _ _ (λ i l q x t.
-      rw (type-quantified i l q r x t e he, ← typeOf-has G w I p f hf x (child-in i l q r x t)) (over-upper q (G .steps) (taken G I q r x e) (I .size) f hf)))
+      link-most G r (typeOf G I e) (typeOf G I f) (I .links r e f) (p .links-le r e f he hf) (λ i l q s x t g.
+      let j = child-in i l q s x t in
+      rw (type-quantified i l q s x t e he, ← typeOf-has G w I p f hf x j)
+      (within-trans q _ _ _
+      (through-mono (G .steps) (G .connectives) (w .lawful) q _ _ _ (links-rise s r e f he hf g) (p .links-le s e f he hf) (gradeAt-le G I w p x j f hf))
+      (over-upper q (G .steps) (taken G I q s x e) (I .size) f hf)))
 
   -- the types of the elements
   abbrev pub Realised : ℕ → Type 0

@@ -1,5 +1,5 @@
--- Theorem B. The interpretation of a sound set of candidates gives each element its type and, if the set has a member, meets every rule, wherever
--- the individuals sit. The survivors are such a set.
+-- Theorem B. The interpretation of a sound set of candidates gives each element its type and, if the set has a member, meets every rule and every pair,
+-- wherever the individuals sit. The survivors are such a set.
 -- Assumes nothing.
 use mathlib.Core.Path.{_≡_, refl, sym, ap, subst, _∙_}
 use mathlib.Core.Logic.{⊎-elim, inl, inr, _↔_}
@@ -17,10 +17,12 @@ use Rattle.semantics.specs.Quantified.{quantified}
 use Rattle.semantics.specs.Interpretations.{Grading, WellFormed, OnChain, atElements}
 use Rattle.semantics.specs.Books.{Rule, Book, Valid, RuleInRange, RuleModel}
 use Rattle.semantics.proofs.Interpretations.{gradeAt-unique}
+use Rattle.semantics.proofs.Roles.{upward-pair}
+use Rattle.semantics.proofs.Governs.{governs-upward, valid-transitive}
 use Rattle.types.specs.Candidates.{gradeIn, named?, bearer, candidates, HasType}
 use Rattle.types.specs.Links.{link}
 use Rattle.types.proofs.Candidates.{gradeIn-le, gradeIn-local, gradeIn-name, typeOf-only}
-use Rattle.types.proofs.Links.{link-le, link-bounded}
+use Rattle.types.proofs.Links.{link-le, link-bounded, link-rises}
 use Rattle.elimination.specs.Survivors.{Sound, survivors, Survives}
 use Rattle.elimination.specs.Listed.{typesIn, Occurs}
 use Rattle.elimination.proofs.Survivors.{survivors-sound}
@@ -64,7 +66,7 @@ module _ (G : Grading) (rs : List Rule) (w : WellFormed G) (xs : List ℕ) (soun
       go i l e h top t = gradeIn-local G w (at e) i l top t
       go i l e h bottom t = gradeIn-local G w (at e) i l bottom t
 
--- .. and one that has a member meets every rule, wherever the individuals sit
+-- .. and one that has a member meets every rule and every pair, wherever the individuals sit
 module _ (B : Book) (w : Valid B) (xs : List ℕ) (sound : Sound (B .grading) (B .rules) (λ c. Mem c xs)) (seat : ℕ → ℕ) (some-left : 0 < length xs)
     (seated : (j : ℕ) → seat j < length xs) where
   abbrev G : Grading
@@ -90,6 +92,9 @@ module _ (B : Book) (w : Valid B) (xs : List ℕ) (sound : Sound (B .grading) (B
         let has = sound-has G (B .rules) (w .well-formed) xs sound seat e h in
         rw (has (q .left) (k .0), has (q .right) (k .1))
         (each-mem (λ o. gradeIn G (getD xs e 0) (o .left) ≤ gradeIn G (getD xs e 0) (o .right)) (B .rules) (sound .fits (getD xs e 0) (mem-at xs e 0 h) .0) q m));
+    pairs-met = mem-each (B .pairs) (λ q m e f _ _.
+        link-rises G (q .lower) (getD xs e 0) (getD xs f 0) (w .well-formed) (valid-transitive B w) (q .upper)
+        (governs-upward G (B .pairs) (w .pairs-in) (w .ranked) (q .upper) (q .lower) .1 (upward-pair (B .pairs) q m)));
   }
 
 -- ---- with Theorem A: the survivors are exactly the types that an element has in some model of the rules

@@ -19,6 +19,6 @@ typesIn G xs seat = record {
   element = seat;
 }
 
--- an element has candidate c's type in some finite interpretation on the chain that meets the rules
+-- an element has candidate c's type in some finite interpretation on the chain that meets the rules (and every pair)
 abbrev pub Occurs : Book → (c : ℕ) → Type 0
 Occurs B c = (I : Interpretation) × RuleModel B I × (e : ℕ) × (e < I .size) × HasType (B .grading) I e c

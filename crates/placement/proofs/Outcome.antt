@@ -1,5 +1,5 @@
--- Theorem C. The outcome says which models there are: outcome 1 if and only if some finite interpretation meets rules and claims, 2 if and
--- only if the rules have a model but none meets the claims, 3 if and only if the rules have none.
+-- Theorem C. The outcome says which models there are: outcome 1 if and only if some finite interpretation meets rules, pairs and claims, 2 if
+-- and only if the rules have a model, which meets every pair, but none meets the claims, 3 if and only if the rules have none.
 -- Assumes nothing.
 use mathlib.Core.Path.{_≡_, refl, ap, subst, _∙_}
 use mathlib.Core.Logic.{_⊎_, inl, inr, ⊎-elim, _↔_}

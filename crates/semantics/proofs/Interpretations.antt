@@ -10,12 +10,13 @@ use Rattle.chain.proofs.Connectives.{zadeh-lawful, over-le, over-same}
 use Rattle.chain.proofs.Search.{strong}
 use Rattle.semantics.specs.Terms.{Term, name, not, and, or, some, all, top, bottom, term, Children, Ordered, local}
 use Rattle.semantics.specs.Quantified.{quantified}
+use Rattle.semantics.specs.Roles.{RolePair}
 use Rattle.semantics.specs.Interpretations.{Grading, graded, WellFormed, Interpretation, OnChain, atElements, gradeAt}
 use Rattle.semantics.proofs.Terms.{value-local}
 
 -- with the base connectives, ordered terms are all that the theory asks
-pub graded-well-formed : (N : ℕ) (ts : List Term) → Ordered ts → WellFormed (graded N ts)
-graded-well-formed N ts o = record { lawful = zadeh-lawful N; ordered = o }
+pub graded-well-formed : (N : ℕ) (ts : List Term) (ps : List RolePair) → Ordered ts → WellFormed (graded N ts ps)
+graded-well-formed N ts ps o = record { lawful = zadeh-lawful N; ordered = o }
 
 -- what a quantified term with role r and child x takes at e from element f
 abbrev pub taken : Grading → Interpretation → Quantifier → (r x e f : ℕ) → ℕ

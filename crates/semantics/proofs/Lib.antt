@@ -1,5 +1,8 @@
 pub mod Terms
 pub mod Quantified
+pub mod Roles
 pub mod Interpretations
 pub mod Table
+pub mod Governs
 pub mod Links
+pub mod Bounds

@@ -2,7 +2,7 @@
 -- links. No other file looks inside the definition.
 -- Assumes nothing.
 use mathlib.Core.Path.{_≡_, refl, sym, subst}
-use mathlib.Core.Logic.{_↔_}
+use mathlib.Core.Logic.{inl, _↔_}
 use Prim.Native.Nat.{ℕ, _≤_, _<_}
 use native.Mathlib.Nat.{le-antisymm}
 use native.Mathlib.Omega.{arith}
@@ -14,8 +14,9 @@ use Rattle.chain.proofs.Connectives.{within-trans, neutral-within, through-mono
 use Rattle.semantics.specs.Terms.{term}
 use Rattle.semantics.specs.Quantified.{quantified, EachOfRole}
 use Rattle.semantics.specs.Interpretations.{Grading, WellFormed}
-use Rattle.semantics.specs.Links.{Allows, allows?, linkBetween}
+use Rattle.semantics.specs.Links.{Governs, Allows, allows?, linkBetween, alone}
 use Rattle.semantics.proofs.Terms.{child-lt}
+use Rattle.semantics.proofs.Governs.{alone-same}
 
 -- the terms have grades on the chain
 abbrev pub Graded : Grading → (ℕ → ℕ) → Type 0
@@ -30,19 +31,20 @@ pub child-in : (G : Grading) → WellFormed G → (i : ℕ) → i < length (G .t
 child-in G w i l q t x e = omega (arith, child-lt (G .terms) (w .ordered) i l q t x e)
 
 module _ (G : Grading) (r : ℕ) (own child : ℕ → ℕ) where
-  -- what is asked of the terms of the role itself is all that is asked
-  pub allows-own : (s : ℕ)
-      → ((i : ℕ) → i < length (G .terms) → (q : Quantifier) (x : ℕ) → term (G .terms) i ≡ quantified q r x → Within q (through (G .connectives) q s (child x)) (own i))
-      → Allows G r own child s
-  allows-own s f i l q t x e g = f i l q x (subst (λ (z : ℕ). term (G .terms) i ≡ quantified q z x) g e)
+  -- what is asked for a role is what is asked by each role that is it or above it
+  pub allows-roles : (s : ℕ) → Allows G r own child s ↔ ((t : ℕ) → Governs G t r → Allows (alone G) t own child s)
+  allows-roles s = (
+    λ a t g i l q u x e h. a i l q u x e (subst (λ (z : ℕ). Governs G z r) (sym (alone-same G u t h)) g),
+    λ f i l q t x e g. f t g i l q t x e (inl refl),
+  )
 
-  -- in the words of the document: "all" and "some" apart
-  pub allows-each : (s : ℕ) → Allows G r own child s
+  -- by a role alone, in the words of the document: "all" and "some" apart
+  pub allows-each : (s : ℕ) → Allows (alone G) r own child s
       ↔ (EachOfRole (G .terms) universal r (λ i x. own i ≤ G .connectives .implication s (child x))
       × EachOfRole (G .terms) existential r (λ i x. G .connectives .conjunction s (child x) ≤ own i))
   allows-each s = (
-    λ a. (λ i l x e. a i l universal r x e refl, λ i l x e. a i l existential r x e refl),
-    λ f. allows-own s (go f),
+    λ a. (λ i l x e. a i l universal r x e (inl refl), λ i l x e. a i l existential r x e (inl refl)),
+    λ f i l q t x e g. go f i l q x (subst (λ (z : ℕ). term (G .terms) i ≡ quantified q z x) (alone-same G t r g) e),
   )
     where
       go : (EachOfRole (G .terms) universal r (λ i x. own i ≤ G .connectives .implication s (child x))

@@ -1,12 +1,14 @@
--- Books (knowledge bases): rules (concept inclusions), membership claims (concept assertions), link claims (role assertions), and when an
--- interpretation meets them. Document 01, "The book".
+-- Books (knowledge bases): rules (concept inclusions), pairs of roles (role inclusions), membership claims (concept assertions), link claims (role
+-- assertions), and when an interpretation meets them. Document 01, "The book", and document 02, P1.
 -- Assumes nothing.
+use mathlib.Core.Path.{_≡_}
 use mathlib.Core.List.{List}
 use Prim.Native.Nat.{ℕ, suc, _≤_, _<_, max}
 use native.Mathlib.Decide.{decLe}
 use lib.ListN.{length}
 use Rattle.chain.specs.Lists.{Each, highest}
 use Rattle.semantics.specs.Terms.{Term, name, not, and, or, some, all, top, bottom}
+use Rattle.semantics.specs.Roles.{RolePair, hierarchy}
 use Rattle.semantics.specs.Interpretations.{Grading, WellFormed, Interpretation, OnChain, gradeAt}
 
 -- two terms
@@ -43,6 +45,7 @@ pub record LinkClaim : Type 0 where
 pub record Book : Type 0 where
   pub grading : Grading
   pub rules : List Rule
+  pub pairs : List RolePair
   pub memberships : List MembershipClaim
   pub links : List LinkClaim
 
@@ -84,13 +87,17 @@ roleAbove bottom = 0
 abbrev pub linkRoles : LinkClaim → ℕ
 linkRoles q = suc (q .role)
 
+-- "Roles in pairs count towards R."
+abbrev pub pairRoles : RolePair → ℕ
+pairRoles q = max (suc (q .lower)) (suc (q .upper))
+
 unfoldable pub nameCount : Book → ℕ
 nameCount B = highest nameAbove (B .grading .terms)
 
 unfoldable pub roleCount : Book → ℕ
-roleCount B = max (highest roleAbove (B .grading .terms)) (highest linkRoles (B .links))
+roleCount B = max (max (highest roleAbove (B .grading .terms)) (highest linkRoles (B .links))) (highest pairRoles (B .pairs))
 
--- ---- what the checks 6 to 9 establish, as far as the theory asks it
+-- ---- what the checks 6 to 9 and 22 establish, as far as the theory asks it
 
 abbrev pub RuleInRange : Grading → Rule → Type 0
 RuleInRange G q = (q .left < length (G .terms)) × (q .right < length (G .terms))
@@ -98,10 +105,16 @@ RuleInRange G q = (q .left < length (G .terms)) × (q .right < length (G .terms)
 abbrev pub TermInRange : Grading → MembershipClaim → Type 0
 TermInRange G q = q .term < length (G .terms)
 
+abbrev pub RolesInRange : RolePair → Type 0
+RolesInRange q = pairRoles q ≤ 8
+
 pub record Valid (B : Book) : Type 0 where
   pub well-formed : WellFormed (B .grading)
   pub rules-in : Each (RuleInRange (B .grading)) (B .rules)
+  pub pairs-in : Each RolesInRange (B .pairs)
   pub terms-in : Each (TermInRange (B .grading)) (B .memberships)
+  -- the hierarchy by which links are worked out is that of the book's pairs
+  pub ranked : B .grading .above ≡ hierarchy (B .pairs)
 
 -- ---- met
 
@@ -118,10 +131,16 @@ module _ (G : Grading) (I : Interpretation) where
 abbrev pub MeetsLink : Interpretation → LinkClaim → Type 0
 MeetsLink I q = q .grade ≤ I .links (q .role) (I .element (q .source)) (I .element (q .target))
 
--- "A model of the rules is a finite interpretation on the book's chain that meets every rule."
+-- "An interpretation meets a pair when the lower role's link never exceeds the upper's."
+abbrev pub MeetsPair : Interpretation → RolePair → Type 0
+MeetsPair I q = (e f : ℕ) → e < I .size → f < I .size → I .links (q .lower) e f ≤ I .links (q .upper) e f
+
+-- "A model of the rules is a finite interpretation on the book's chain that meets every rule." "The verdict, list and later questions cover only
+-- interpretations that meet every pair."
 pub record RuleModel (B : Book) (I : Interpretation) : Type 0 where
   pub on-chain : OnChain (B .grading .steps) I
   pub rules-met : Each (MeetsRule (B .grading) I) (B .rules)
+  pub pairs-met : Each (MeetsPair I) (B .pairs)
 
 pub record MeetsClaims (B : Book) (I : Interpretation) : Type 0 where
   pub memberships-met : Each (MeetsMembership (B .grading) I) (B .memberships)
@@ -131,6 +150,6 @@ pub record MeetsClaims (B : Book) (I : Interpretation) : Type 0 where
 abbrev pub RulesSatisfiable : Book → Type 0
 RulesSatisfiable B = (I : Interpretation) × RuleModel B I
 
--- some finite non-empty interpretation on the chain meets every rule and every claim
+-- some finite non-empty interpretation on the chain meets every rule, every pair and every claim
 abbrev pub Satisfiable : Book → Type 0
 Satisfiable B = (I : Interpretation) × RuleModel B I × MeetsClaims B I

@@ -5,16 +5,18 @@ use mathlib.Core.List.{List}
 use Prim.Native.Nat.{ℕ, _≤_, _<_}
 use Rattle.chain.specs.Connectives.{Connectives, Lawful, zadeh, existential, universal, over}
 use Rattle.semantics.specs.Terms.{Term, Ordered, Carrier, value}
+use Rattle.semantics.specs.Roles.{RolePair, hierarchy}
 
--- what grades are worked out from: the chain 0..steps, its connectives, and the terms
+-- what grades and links are worked out from: the chain 0..steps, its connectives, the terms, and the hierarchy of the roles
 pub record Grading : Type 0 where
   pub steps : ℕ
   pub connectives : Connectives
   pub terms : List Term
+  pub above : List RolePair
 
--- with the base connectives
-abbrev pub graded : ℕ → List Term → Grading
-graded N ts = record { steps = N; connectives = zadeh N; terms = ts }
+-- with the base connectives, and the hierarchy of the pairs ps
+abbrev pub graded : ℕ → List Term → (ps : List RolePair) → Grading
+graded N ts ps = record { steps = N; connectives = zadeh N; terms = ts; above = hierarchy ps }
 
 -- what check 6 establishes of the terms, and what every instance of the connectives is shown to be
 pub record WellFormed (G : Grading) : Type 0 where

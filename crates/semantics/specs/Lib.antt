@@ -1,5 +1,6 @@
 pub mod Terms
 pub mod Quantified
+pub mod Roles
 pub mod Interpretations
 pub mod Table
 pub mod Books
