@@ -5,7 +5,9 @@ use Prim.Native.Nat.{ℕ}
 use Rattle.semantics.specs.Interpretations.{Grading}
 use Rattle.semantics.specs.Books.{Book}
 use Rattle.claims.specs.Rules.{rulesOf}
+use Rattle.claims.specs.Pairs.{pairsOf}
 use Rattle.claims.specs.Claims.{membershipsOf, linksOf}
 
-abbrev pub bookOfSections : Grading → (rules memberships links : List ℕ) → Book
-bookOfSections G rs ms ls = record { grading = G; rules = rulesOf rs; memberships = membershipsOf ms; links = linksOf ls }
+abbrev pub bookOfSections : Grading → (rules pairs memberships links : List ℕ) → Book
+bookOfSections G rs ps ms ls =
+    record { grading = G; rules = rulesOf rs; pairs = pairsOf ps; memberships = membershipsOf ms; links = linksOf ls }

@@ -1,8 +1,9 @@
-// The rules and claims of a book, each section checked over its own stretch of bytes.
+// The rules, pairs and claims of a book, each section checked over its own stretch of bytes.
 ghost use Prim.Native.Nat.{_<_};
 ghost use Rattle.chain.specs.Decisions.{Tells};
 ghost use Rattle.semantics.specs.Books.{Claimed};
 ghost use Rattle.claims.specs.Rules.{ruleCount, RuleRight, RulesRight};
+ghost use Rattle.claims.specs.Pairs.{PairsRight};
 ghost use Rattle.claims.specs.Claims.{senseOf, claimCount, MembershipRight, MembershipsRight, LinkRight, LinksRight};
 use encoding::wide;
 
@@ -31,6 +32,15 @@ pub fn rules_right(s: &[u8], n: usize) -> bool
         i += 1;
     }
     true
+}
+
+// ---- pairs of roles: two bytes each (check 22)
+
+// Does every pair name two roles 0 to 7? They are asked as a rule's two terms are, of eight.
+pub fn pairs_right(s: &[u8]) -> bool
+    ensures { λ r. ⌜ Tells r (PairsRight (now (s .entry))) ⌝ }
+{
+    rules_right(s, 8)
 }
 
 // ---- claims: four bytes each (checks 8 and 9)

@@ -23,12 +23,13 @@ use Rattle.counter.specs.declared.Counted.the-variants.{Refused as Decli
 -- ---- the answer on an accepted book
 
 module _ (b : List ℕ) (s : Sections) (ok : Right b s) where
+  -- pairs play no part in it
   abbrev G : Grading
-  G = graded (s .steps) (termsOf (termBytes b s))
+  G = graded (s .steps) (termsOf (termBytes b s)) []
 
   few : (k : ℕ) → candidates G ≡ k → candidates (bookOf b .grading) ≡ k
-  unfolding bookOf
-  few k e = subst (λ (t : Sections). candidates (graded (t .steps) (termsOf (termBytes b t))) ≡ k) (ok .sections-are) e
+  unfolding bookOf candidates
+  few k e = subst (λ (t : Sections). candidates (graded (t .steps) (termsOf (termBytes b t)) []) ≡ k) (ok .sections-are) e
 
   pub counted-few : (k : ℕ) → candidates G ≡ k → k ≤ 16384 → countedOf b ≡ Candidates k
   unfolding countedOf Accepts
@@ -46,7 +47,7 @@ pub counted-refused : (b : List ℕ) (n : ℕ) → openedOf b ≡ Refused n → 
 unfolding countedOf
 counted-refused b n e = ap (counted (candidates (bookOf b .grading))) (first-some-append (bookQuestions b) _ n (opened-refused b n e))
 
--- what the count says of the checks 1 to 10
+-- what the count says of the checks 1 to 9, 22 and 10
 
 pub counted-candidates : (b : List ℕ) (k : ℕ) → countedOf b ≡ Candidates k → (firstNo (candidateQuestions b) ≡ none) × (candidates (bookOf b .grading) ≡ k)
 unfolding countedOf

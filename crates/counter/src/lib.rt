@@ -24,7 +24,7 @@ pub fn count_in(b: &[u8], s: Sections) -> Counted
     }
 }
 
-// Checks a book, 1 to 10, and counts its candidates.
+// Checks a book, 1 to 9, 22 and 10, and counts its candidates.
 pub fn count(b: &[u8]) -> Counted
     ensures { λ r. ⌜ r ≡ countedOf (now (b .entry)) ⌝ }
     ensures { λ r. ⌜ countedNumber r ≡ firstNo (candidateQuestions (now (b .entry))) ⌝ }

@@ -1,13 +1,15 @@
 -- Laws of what a `Logic` stands for.
 -- Assumes nothing.
-use mathlib.Core.Path.{_≡_, refl}
+use mathlib.Core.Path.{_≡_, ap}
 use mathlib.Core.List.{List}
-use Prim.Native.Nat.{ℕ}
-use Rattle.chain.specs.Connectives.{Lawful}
+use Rattle.chain.specs.Connectives.{Lawful, zadeh}
 use Rattle.chain.proofs.Connectives.{zadeh-lawful}
 use Rattle.semantics.specs.Terms.{Term, Ordered}
-use Rattle.semantics.specs.Interpretations.{Grading, WellFormed, graded}
-use Rattle.gradings.specs.Gradings.{connectivesOf, grading, baseLogic}
+use Rattle.semantics.specs.Roles.{RolePair}
+use Rattle.semantics.specs.Interpretations.{WellFormed, graded}
+use Rattle.roles.specs.Tables.{Reaches}
+use Rattle.roles.proofs.Tables.{reaches-hierarchy}
+use Rattle.gradings.specs.Gradings.{connectivesOf, grading}
 use Rattle.gradings.specs.declared.Logic.{Logic}
 
 pub logic-lawful : (l : Logic) → Lawful (l .steps) (connectivesOf l)
@@ -18,7 +20,8 @@ logic-lawful l = zadeh-lawful (l .steps)
 pub grading-well-formed : (l : Logic) (ts : List Term) → Ordered ts → WellFormed (grading l ts)
 grading-well-formed l ts o = record { lawful = logic-lawful l; ordered = o }
 
--- where one is made: the base logic stands for the base connectives
-pub base-grading : (N : ℕ) → _≡_ {A = List Term → Grading} (grading (baseLogic N)) (graded N)
+-- where one is made: on N steps, with a table of what is reached by the pairs, it stands for the base connectives and these pairs
+pub ranked-grading : (l : Logic) (ps : List RolePair) → Reaches ps (l .above) → (ts : List Term) → grading l ts ≡ graded (l .steps) ts ps
 unfolding connectivesOf
-base-grading N = refl
+ranked-grading l ps of ts =
+    ap (λ (h : List RolePair). record { steps = l .steps; connectives = zadeh (l .steps); terms = ts; above = h }) (reaches-hierarchy ps (l .above) of)

@@ -1,1 +1,2 @@
 pub mod Gradings
+pub mod Above

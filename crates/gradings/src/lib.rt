@@ -1,24 +1,33 @@
 // What grades are worked out by, beside the terms, as one value: the chain's steps, its connectives over bytes, and whose terms bound a link.
 ghost use mathlib.Core.Path.{_≡_};
-ghost use mathlib.Core.List.{[]};
+ghost use mathlib.Core.List.{List, []};
 ghost use Prim.Native.Nat.{_+_, _≤_, _<_};
 ghost use Rattle.chain.specs.Decisions.{Tells};
 ghost use Rattle.chain.specs.Connectives.{existential, universal, through as throughOf, Permits, Wants, Bounds};
+ghost use Rattle.semantics.specs.Terms.{Term};
+ghost use Rattle.semantics.specs.Interpretations.{graded};
 ghost use Rattle.semantics.specs.Links.{Governs};
 ghost use Rattle.sections.specs.Terms.{quantifierOf};
-ghost use Rattle.gradings.specs.Gradings.{baseLogic, connectivesOf, grading};
+ghost use Rattle.claims.specs.Pairs.{pairsOf, PairsRight};
+ghost use Rattle.gradings.specs.Gradings.{connectivesOf, grading};
+use encoding::wide;
 
 // A request that changes how grades are worked out adds a field here, and no parameter anywhere. It stands for a `Grading` by `grading` of
 // specs/Gradings. Its steps are those that grades are worked out on; a book has its own number, which its checks go by.
 pub struct Logic {
     pub steps: u8,
+    // byte 8 r + t is 1 where role t is reached from role r
+    pub above: [u8; 64],
 }
 
-// The base logic on a chain of `steps` steps. The only place where a `Logic` is made.
-pub fn base_logic(steps: u8) -> Logic
-    ensures { λ r. ⌜ r ≡ baseLogic steps ⌝ }
+// The base logic on a chain of `steps` steps, with these pairs of roles. The only place where a `Logic` is made.
+pub fn ranked_logic(steps: u8, pairs: &[u8]) -> Logic
+    requires { ⌜ PairsRight (now pairs) ⌝ }
+    ensures { λ r. ⌜ r .steps ≡ steps ⌝ }
+    ensures { λ r. ⌜ ((ts : List Term) → grading r ts ≡ graded steps ts (pairsOf (now (pairs .entry)))) ⌝ }
 {
-    Logic { steps: steps }
+    let above = roles::reach(pairs);
+    Logic { steps, above }
 }
 
 // How many grades there are: the base of a candidate's digits.
@@ -61,11 +70,21 @@ fn implication(logic: Logic, x: u8, y: u8) -> u8
 
 // ---- links
 
-// Do the terms of the role `t` bound the links of the role `r`?
+// Do the terms of the role `t` bound the links of the role `r`? It is that role, or above it.
 pub fn governs(logic: Logic, t: u8, r: u8) -> bool
     ensures { λ b. ⌜ Tells b (Governs (grading logic []) t r) ⌝ }
 {
-    t == r
+    if t == r {
+        return true;
+    }
+    if 8 <= t {
+        return false;
+    }
+    if 8 <= r {
+        return false;
+    }
+    let at = 8 * wide(r) + wide(t);
+    logic.above[at] == 1
 }
 
 // What a quantified term of this kind, 4 "some" or 5 "all", takes through a link of grade `link` from a child of grade `child`.

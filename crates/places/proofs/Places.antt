@@ -1,7 +1,7 @@
 -- Laws of places: which kinds are places, and how many there are, one term more.
 -- Assumes nothing.
 use mathlib.Core.Path.{_≡_, refl, sym, ap, subst, _∙_}
-use mathlib.Core.List.{List}
+use mathlib.Core.List.{List, []}
 use Prim.Native.Nat.{ℕ, _+_, _^_, _<_}
 use native.Mathlib.Numerals.{add-one}
 use Rattle.semantics.specs.Terms.{Term}
@@ -35,7 +35,7 @@ module _ (s : List ℕ) where
     places-same n =
         rw (add-one i) (sym (placesBefore-other (termsOf s) i (λ p. n (subst (λ (t : Term). IsPlace (place t)) (term-at s i h) p))))
 
-  pub candidates-of : TermsRight s → (N : ℕ) → (N + 1) ^ placesBefore (termsOf s) (termCount s) ≡ candidates (graded N (termsOf s))
+  pub candidates-of : TermsRight s → (N : ℕ) → (N + 1) ^ placesBefore (termsOf s) (termCount s) ≡ candidates (graded N (termsOf s) [])
   candidates-of ok N =
       ap (λ (n : ℕ). (N + 1) ^ placesBefore (termsOf s) n) (sym (length-terms s))
-      ∙ sym (candidates-count (graded N (termsOf s)) (graded-well-formed N (termsOf s) (terms-ordered s ok)) (terms-apart s ok))
+      ∙ sym (candidates-count (graded N (termsOf s) []) (graded-well-formed N (termsOf s) [] (terms-ordered s ok)) (terms-apart s ok))

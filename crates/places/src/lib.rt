@@ -1,5 +1,6 @@
 // The places among a section's terms, and how many candidates they make.
 ghost use mathlib.Core.Path.{_≡_};
+ghost use mathlib.Core.List.{[]};
 ghost use Prim.Native.Nat.{_<_, _≤_};
 ghost use Rattle.chain.specs.Decisions.{Tells};
 ghost use Rattle.powers.specs.Bounded.{bounded};
@@ -38,11 +39,11 @@ pub fn count_places(s: &[u8]) -> usize
     found
 }
 
-// The number of candidates on `steps` steps, up to 16,384 (check 10).
+// The number of candidates on `steps` steps, up to 16,384 (check 10). Pairs of roles play no part in it.
 pub fn count_candidates(s: &[u8], steps: u8) -> Power
     requires { ⌜ TermsRight (now s) ⌝ }
     requires { ⌜ (1 ≤ steps) × (steps ≤ 8) ⌝ }
-    ensures { λ r. ⌜ r ≡ bounded (candidates (graded steps (termsOf (now (s .entry))))) ⌝ }
+    ensures { λ r. ⌜ r ≡ bounded (candidates (graded steps (termsOf (now (s .entry))) [])) ⌝ }
 {
     powers::bounded_power(steps, count_places(s))
 }
