@@ -1,7 +1,7 @@
--- Laws of the strongest link claims: those of no claim, and of one claim more.
+-- Laws of the strongest link claims: those of no claim, of one claim for one role more, and of one claim more.
 -- Assumes nothing.
-use mathlib.Core.Path.{_≡_, sym, ap, subst, _∙_}
-use mathlib.Core.Logic.{dite}
+use mathlib.Core.Path.{_≡_, refl, sym, ap, subst, _∙_}
+use mathlib.Core.Logic.{_⊎_, inl, inr, ⊎-elim, dite}
 use mathlib.Core.List.{List}
 use Prim.Native.Nat.{ℕ, _+_, _*_, _≤_, _<_}
 use native.Mathlib.Decide.{ℕ-discrete}
@@ -9,67 +9,107 @@ use native.Mathlib.Omega.{arith}
 use lib.ListN.{length, getD, set}
 use lib.Seq.{getD-set-same, getD-set-other}
 use Rattle.claims.specs.Claims.{claimCount, linkAt, LinksRight}
-use Rattle.network.specs.Levels.{pairOf, levelAt, ClaimsRanged, LevelsOf}
+use Rattle.gradings.specs.declared.Logic.{Logic}
+use Rattle.network.specs.Levels.{pairOf, Bounds, levelAt, ClaimsRanged, LevelsBy, LevelsOf, LevelsUpTo, NotedFor}
 
--- where the level of claim i stands
-abbrev cell : (ls : List ℕ) (i : ℕ) → ℕ
-cell ls i = 64 * linkAt ls i .role + pairOf (linkAt ls i)
+module _ (l : Logic) (ls : List ℕ) where
+  pub levels-none : (levels : List ℕ) → ((z : ℕ) → getD levels z 0 ≡ 0) → LevelsOf l ls 0 levels
+  levels-none levels zeros = record {
+    most = λ i t h _ _. absurd (omega arith);
+    some = λ t x _ _ h. absurd (omega (arith, zeros (64 * t + x)));
+  }
 
-module _ (ls levels : List ℕ) where
-  pub levels-none : ((z : ℕ) → getD levels z 0 ≡ 0) → LevelsOf ls 0 levels
-  levels-none zeros = record { most = λ i l. absurd (omega arith); some = λ r x _ _ l. absurd (omega (arith, zeros (64 * r + x))) }
+  -- what was noted, told otherwise
+  levels-told : (P Q : (i t : ℕ) → Type 0) (levels : List ℕ) → ((i t : ℕ) → t < 8 → Q i t → P i t) → ((i t : ℕ) → P i t → Q i t) → LevelsBy l ls P levels
+      → LevelsBy l ls Q levels
+  levels-told P Q levels f g of = record {
+    most = λ i t h k b. of .most i t (f i t k h) k b;
+    some = λ t x ht hx h. let w = of .some t x ht hx h in (w .0, g (w .0) t (w .1), w .2, w .3, w .4);
+  }
 
-  -- a claim of no greater grade changes nothing
-  pub levels-kept : (k z : ℕ) → z ≡ cell ls k → LevelsOf ls k levels → linkAt ls k .grade ≤ getD levels z 0 → LevelsOf ls (k + 1) levels
-  levels-kept k z ez of g = record { most = most; some = some }
-    where
-      h : linkAt ls k .grade ≤ getD levels (cell ls k) 0
-      h = rw (← ez) g
+  pub levels-start : (k : ℕ) (levels : List ℕ) → LevelsOf l ls k levels → LevelsUpTo l ls k 0 levels
+  levels-start k levels of =
+      levels-told _ _ levels (λ i t _ h. ⊎-elim (λ c. c) (λ p. absurd (omega (arith, p .1))) h) (λ i t h. inl h) of
 
-      most : (i : ℕ) → i < k + 1 → linkAt ls i .grade ≤ getD levels (cell ls i) 0
-      most i l = dite (ℕ-discrete i k) (λ e. rw e h) (λ n. of .most i (omega arith))
+  pub levels-next : (k b : ℕ) (levels : List ℕ) → b ≡ 8 → LevelsUpTo l ls k b levels → LevelsOf l ls (k + 1) levels
+  levels-next k b levels e of =
+      levels-told _ _ levels (λ i t ht h. dite (ℕ-discrete i k) (λ c. inr (c, omega arith)) (λ n. inl (omega arith)))
+      (λ i t h. ⊎-elim (λ c. omega arith) (λ p. omega (arith, p .0)) h) of
 
-      some : (r x : ℕ) → r < 8 → x < 64 → 0 < levelAt levels r x
-          → (i : ℕ) × (i < k + 1) × (linkAt ls i .role ≡ r) × (pairOf (linkAt ls i) ≡ x) × (linkAt ls i .grade ≡ levelAt levels r x)
-      some r x hr hx l = let w = of .some r x hr hx l in (w .0, omega (arith, w .1), w .2, w .3, w .4)
+  module _ (k b : ℕ) (lt : k < claimCount ls) (hb : b < 8) (ranged : ClaimsRanged ls) (old : List ℕ) (of : LevelsUpTo l ls k b old) where
+    abbrev g : ℕ
+    g = linkAt ls k .grade
 
-  -- one of a greater grade is the strongest of its role and pair
-  pub levels-raised : (k z : ℕ) → z ≡ cell ls k → k < claimCount ls → ClaimsRanged ls → 512 ≤ length levels → LevelsOf ls k levels
-      → getD levels z 0 < linkAt ls k .grade → LevelsOf ls (k + 1) (set levels z (linkAt ls k .grade))
-  levels-raised k z ez lt ranged long of above = subst (λ (v : ℕ). LevelsOf ls (k + 1) (set levels v g)) (sym ez) (record { most = most; some = some })
-    where
-      h : getD levels (cell ls k) 0 < linkAt ls k .grade
-      h = rw (← ez) above
+    abbrev at : ℕ
+    at = 64 * b + pairOf (linkAt ls k)
 
-      g : ℕ
-      g = linkAt ls k .grade
+    -- a claim that is noted already, or the one that is noted now
+    cases : (i t : ℕ) → (i < k) ⊎ ((i ≡ k) × (t < b + 1)) → ((i < k) ⊎ ((i ≡ k) × (t < b))) ⊎ ((i ≡ k) × (t ≡ b))
+    cases i t (inl h) = inl (inl h)
+    cases i t (inr p) = dite (ℕ-discrete t b) (λ e. inr (p .0, e)) (λ n. inl (inr (p .0, omega (arith, p .1))))
 
-      here : getD (set levels (cell ls k) g) (cell ls k) 0 ≡ g
-      here = getD-set-same levels (cell ls k) g 0 (omega (arith, ranged k lt .0, ranged k lt .1, ranged k lt .2))
+    more : (i t : ℕ) → (i < k) ⊎ ((i ≡ k) × (t < b)) → (i < k) ⊎ ((i ≡ k) × (t < b + 1))
+    more i t (inl h) = inl h
+    more i t (inr p) = inr (p .0, omega (arith, p .1))
 
-      most : (i : ℕ) → i < k + 1 → linkAt ls i .grade ≤ getD (set levels (cell ls k) g) (cell ls i) 0
-      most i l =
-          dite (ℕ-discrete i k) (λ e. rw e (omega (arith, here)))
-          (λ n. let m = of .most i (omega arith) in dite (ℕ-discrete (cell ls i) (cell ls k))
-          (λ e. let o : getD levels (cell ls i) 0 ≡ getD levels (cell ls k) 0 = ap (λ (z : ℕ). getD levels z 0) e in rw (e, here) (omega (arith, h)))
-          (λ d. rw (getD-set-other levels (cell ls k) (cell ls i) g 0 d) m))
+    -- nothing is to be raised
+    kept : (Bounds l b (linkAt ls k .role) → g ≤ getD old at 0) → LevelsUpTo l ls k (b + 1) old
+    kept h = record {
+      most = λ i t n ht c. ⊎-elim (λ m. of .most i t m ht c)
+          (λ p. subst (λ (z : ℕ). linkAt ls z .grade ≤ levelAt old t (pairOf (linkAt ls z))) (sym (p .0))
+          (subst (λ (z : ℕ). g ≤ levelAt old z (pairOf (linkAt ls k))) (sym (p .1))
+          (h (subst (λ (z : ℕ). Bounds l z (linkAt ls k .role)) (p .1) (subst (λ (z : ℕ). Bounds l t (linkAt ls z .role)) (p .0) c))))) (cases i t n);
+      some = λ t x ht hx u. let w = of .some t x ht hx u in (w .0, more (w .0) t (w .1), w .2, w .3, w .4);
+    }
 
-      some : (r x : ℕ) → r < 8 → x < 64 → 0 < levelAt (set levels (cell ls k) g) r x
-          → (i : ℕ) × (i < k + 1) × (linkAt ls i .role ≡ r) × (pairOf (linkAt ls i) ≡ x) × (linkAt ls i .grade ≡ levelAt (set levels (cell ls k) g) r x)
-      some r x hr hx l =
-          dite (ℕ-discrete (64 * r + x) (cell ls k))
-          (λ e. (
-            k,
-            omega arith,
-            omega (arith, ranged k lt .0, ranged k lt .1, ranged k lt .2),
-            omega (arith, ranged k lt .0, ranged k lt .1, ranged k lt .2),
-            sym (ap (λ (z : ℕ). getD (set levels (cell ls k) g) z 0) e ∙ here),
-          ))
-          (λ n. let o = getD-set-other levels (cell ls k) (64 * r + x) g 0 n in
-          let w = of .some r x hr hx (rw o at l) in (w .0, omega (arith, w .1), w .2, w .3, w .4 ∙ sym o))
+    -- the claim is the strongest
+    raised : 512 ≤ length old → Bounds l b (linkAt ls k .role) → getD old at 0 < g → LevelsUpTo l ls k (b + 1) (set old at g)
+    raised long bounds above = record { most = most; some = some }
+      where
+        r : (linkAt ls k .role < 8) × (linkAt ls k .source < 8) × (linkAt ls k .target < 8)
+        r = ranged k lt
+
+        here : getD (set old at g) at 0 ≡ g
+        here = getD-set-same old at g 0 (omega (arith, r .1, r .2))
+
+        -- no level falls
+        rise : (t x : ℕ) → levelAt old t x ≤ levelAt (set old at g) t x
+        rise t x =
+            dite (ℕ-discrete (64 * t + x) at) (λ e. rw e (omega (arith, here)))
+            (λ n. omega (arith, getD-set-other old at (64 * t + x) g 0 n))
+
+        most : (i t : ℕ) → (i < k) ⊎ ((i ≡ k) × (t < b + 1)) → t < 8 → Bounds l t (linkAt ls i .role)
+            → linkAt ls i .grade ≤ levelAt (set old at g) t (pairOf (linkAt ls i))
+        most i t n ht c =
+            ⊎-elim (λ m. omega (arith, of .most i t m ht c, rise t (pairOf (linkAt ls i))))
+            (λ p. subst (λ (z : ℕ). linkAt ls z .grade ≤ levelAt (set old at g) t (pairOf (linkAt ls z))) (sym (p .0))
+            (subst (λ (z : ℕ). g ≤ levelAt (set old at g) z (pairOf (linkAt ls k))) (sym (p .1)) (omega (arith, here)))) (cases i t n)
+
+        some : (t x : ℕ) → t < 8 → x < 64 → 0 < levelAt (set old at g) t x
+            → (i : ℕ) × ((i < k) ⊎ ((i ≡ k) × (t < b + 1))) × Bounds l t (linkAt ls i .role) × (pairOf (linkAt ls i) ≡ x)
+            × (linkAt ls i .grade ≡ levelAt (set old at g) t x)
+        some t x ht hx u =
+            dite (ℕ-discrete (64 * t + x) at)
+            (λ e. let same : t ≡ b = omega (arith, r .1, r .2) in (
+              k,
+              inr (refl, omega arith),
+              subst (λ (z : ℕ). Bounds l z (linkAt ls k .role)) (sym same) bounds,
+              omega (arith, r .1, r .2),
+              sym (ap (λ (z : ℕ). getD (set old at g) z 0) e ∙ here),
+            ))
+            (λ n. let o = getD-set-other old at (64 * t + x) g 0 n in
+            let w = of .some t x ht hx (rw o at u) in (w .0, more (w .0) t (w .1), w .2, w .3, w .4 ∙ sym o))
+
+    pub levels-noted : (z : ℕ) → z ≡ at → (new : List ℕ) → 512 ≤ length old → NotedFor l b (linkAt ls k .role) g z old new → LevelsUpTo l ls k (b + 1) new
+    levels-noted z e new long h = go (subst (λ (x : ℕ). NotedFor l b (linkAt ls k .role) g x old new) e h)
+      where
+        go : NotedFor l b (linkAt ls k .role) g at old new → LevelsUpTo l ls k (b + 1) new
+        go (inl (n, e)) = subst (LevelsUpTo l ls k (b + 1)) (sym e) (kept (λ c. absurd (n c)))
+        go (inr (c, inl (h, e))) = subst (LevelsUpTo l ls k (b + 1)) (sym e) (kept (λ _. h))
+        go (inr (c, inr (h, e))) = subst (LevelsUpTo l ls k (b + 1)) (sym e) (raised long c h)
 
   -- levels are on the chain
-  pub levels-le : (N : ℕ) → LinksRight ls N → LevelsOf ls (claimCount ls) levels → (r x : ℕ) → r < 8 → x < 64 → levelAt levels r x ≤ N
-  levels-le N right of r x hr hx =
-      dite (ℕ-discrete (levelAt levels r x) 0) (λ e. omega arith)
-      (λ n. let w = of .some r x hr hx (omega arith) in omega (arith, w .4, right (w .0) (w .1) .1 .1 .1))
+  pub levels-le : (levels : List ℕ) (N : ℕ) → LinksRight ls N → LevelsOf l ls (claimCount ls) levels → (t x : ℕ) → t < 8 → x < 64 → levelAt levels t x ≤ N
+  levels-le levels N right of t x ht hx =
+      dite (ℕ-discrete (levelAt levels t x) 0) (λ e. omega arith)
+      (λ n. let w = of .some t x ht hx (omega arith) in omega (arith, w .4, right (w .0) (w .1) .1 .1 .1))

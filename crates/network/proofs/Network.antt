@@ -2,7 +2,7 @@
 -- exactly where its link claims are.
 -- Assumes nothing.
 use mathlib.Core.Path.{_≡_, refl, sym, ap, subst, _∙_}
-use mathlib.Core.Logic.{_↔_, dite}
+use mathlib.Core.Logic.{inl, _↔_, dite}
 use mathlib.Core.List.{List}
 use Prim.Native.Nat.{ℕ, _+_, _-_, _*_, _≤_, _<_}
 use native.Mathlib.Decide.{decLt}
@@ -10,15 +10,16 @@ use native.Mathlib.Omega.{arith}
 use lib.ListN.{length, getD, set}
 use lib.Seq.{getD-set-same, getD-set-other}
 use borrow.Author.Count.{below-more}
+use Rattle.chain.specs.Connectives.{Permits}
+use Rattle.chain.proofs.Connectives.{within-trans, through-mono}
 use Rattle.semantics.specs.Terms.{Term, Ordered}
-use Rattle.semantics.specs.Interpretations.{Grading}
-use Rattle.semantics.specs.Links.{Governs, Allows}
-use Rattle.semantics.proofs.Links.{Graded, allows-down, up-to-link}
+use Rattle.semantics.specs.Interpretations.{Grading, WellFormed}
+use Rattle.semantics.proofs.Links.{Graded, up-to-link}
 use Rattle.claims.specs.Claims.{claimCount, linkAt, LinksRight}
-use Rattle.gradings.specs.Gradings.{grading}
+use Rattle.gradings.specs.Gradings.{connectivesOf, grading}
 use Rattle.gradings.specs.declared.Logic.{Logic}
-use Rattle.gradings.proofs.Gradings.{grading-well-formed}
-use Rattle.slots.specs.Slots.{slotCount, slotRole, slotChild, slotTerm, SlotsOf}
+use Rattle.gradings.proofs.Gradings.{logic-lawful, grading-well-formed}
+use Rattle.slots.specs.Slots.{slotCount, slotRole, slotChild, slotTerm, slotQuantifier, SlotsOf}
 use Rattle.slots.specs.Rows.{SlotRow}
 use Rattle.slots.proofs.Slots.{slot-child, slots-allow}
 use Rattle.network.specs.declared.Constraint.{Constraint}
@@ -125,10 +126,10 @@ module _ (slots levels : List ℕ) where
       at = same-constraint net new m (d .kept)
 
   -- they are the network of the claims that the levels are of
-  pub connected-network : (ls net ends : List ℕ) (m : ℕ) → LevelsOf ls (claimCount ls) levels → 4096 ≤ length net → Connected slots levels 64 m net ends
-      → NetworkOf slots ls levels net ends
-  connected-network ls net ends m of long c = record {
-    laid = λ x l. let w = c .rising x l in (w .0, omega (arith, w .2, c .few), omega (arith, w .1));
+  pub connected-network : (l : Logic) (ls net ends : List ℕ) (m : ℕ) → LevelsOf l ls (claimCount ls) levels → 4096 ≤ length net
+      → Connected slots levels 64 m net ends → NetworkOf l slots ls levels net ends
+  connected-network l ls net ends m of long c = record {
+    laid = λ x h. let w = c .rising x h in (w .0, omega (arith, w .2, c .few), omega (arith, w .1));
     levels-of = of;
     lists = λ x l. let w = c .rising x l in
         let s : ℕ = getD ends x 0 in
@@ -147,11 +148,6 @@ module _ (slots levels : List ℕ) where
 
 -- ---- what the network stands for
 
--- Links of a role are bound by the slots of that role and by no others. This is where a change of `Governs` is felt: a constraint's level is the
--- strongest link claimed of its slot's own role.
-governs-same : (G : Grading) (t r : ℕ) → Governs G t r ↔ (t ≡ r)
-governs-same G t r = (λ e. e, λ e. e)
-
 module _ (l : Logic) (ts : List Term) (o : Ordered ts) (slots : List ℕ) (S : SlotsOf ts slots) where
   -- a row of slots is on the chain where the grades are
   pub slot-row-on-chain : (f : ℕ → ℕ) (row : List ℕ) → Graded (grading l ts) f → SlotRow slots f row → OnChain l (2 * slotCount slots) row
@@ -163,13 +159,13 @@ module _ (l : Logic) (ts : List Term) (o : Ordered ts) (slots : List ℕ) (S : S
       rw (← e, w .child-is q k) (on (slotChild slots q) (slot-child ts o slots S q k)))
 
   module _ (roles : (j : ℕ) → j < slotCount slots → slotRole slots j < 8) (ls levels net ends : List ℕ) (links : LinksRight ls (l .steps))
-      (of : NetworkOf slots ls levels net ends) (x : ℕ) (hx : x < 64) where
+      (of : NetworkOf l slots ls levels net ends) (x : ℕ) (hx : x < 64) where
     pub network-right : AllRight l (2 * slotCount slots) (constraintsOf net ends x)
     network-right y h =
         let w = of .lists x hx .are y (omega arith) h in
         subst (ConstraintRight l (2 * slotCount slots)) (sym (w .2)) (record {
           kinds = S .kinds (w .0) (w .1);
-          level-le = levels-le ls levels (l .steps) links (of .levels-of) (slotRole slots (w .0)) x (roles (w .0) (w .1)) hx;
+          level-le = levels-le l ls levels (l .steps) links (of .levels-of) (slotRole slots (w .0)) x (roles (w .0) (w .1)) hx;
           own-lt = omega (arith, w .1);
           child-lt = omega (arith, w .1);
         })
@@ -182,33 +178,46 @@ module _ (l : Logic) (ts : List Term) (o : Ordered ts) (slots : List ℕ) (S : S
         G : Grading
         G = grading l ts
 
-        -- a link of grade 0 asks nothing
-        claimed : (r v : ℕ) → (0 < v → Allows G r f g v) → Allows G r f g v
-        claimed r v h =
-            dite (decLt 0 v) h (λ n. let e : 0 ≡ v = omega arith in subst (Allows G r f g) e
-            (up-to-link G r f g (grading-well-formed l ts o) on-f on-g 0 (omega arith) .0 (omega arith)))
+        w : WellFormed G
+        w = grading-well-formed l ts o
+
+        -- slot j asks nothing through a link of grade 0, and less through a weaker one
+        none : (j : ℕ) → j < slotCount slots → Permits (connectivesOf l) (slotQuantifier slots j) 0 (g (slotChild slots j)) (f (slotTerm slots j))
+        none j h =
+            slots-allow G slots S (slotRole slots j) f g 0 .1
+            (up-to-link G (slotRole slots j) f g w on-f on-g 0 (omega arith) .0 (omega arith)) j h (inl refl)
+
+        weaker : (j : ℕ) → j < slotCount slots → (s v : ℕ) → s ≤ v → v ≤ l .steps
+            → Permits (connectivesOf l) (slotQuantifier slots j) v (g (slotChild slots j)) (f (slotTerm slots j))
+            → Permits (connectivesOf l) (slotQuantifier slots j) s (g (slotChild slots j)) (f (slotTerm slots j))
+        weaker j h s v le on =
+            within-trans (slotQuantifier slots j) _ _ _
+            (through-mono (l .steps) (connectivesOf l) (logic-lawful l) (slotQuantifier slots j) s v _ le on (on-g (slotChild slots j) (slot-child ts o slots S j h)))
 
         to : AllMet l (constraintsOf net ends x) a b → ClaimsMet G ls x f g
         to m i h e =
-            let r = linkAt ls i .role in
-            let v = levelAt levels r x in
-            let le = levels-le ls levels (l .steps) links (of .levels-of) r x (links i h .0) hx in
-            allows-down G r f g (grading-well-formed l ts o) on-f on-g (linkAt ls i .grade) v
-            (subst (λ (z : ℕ). linkAt ls i .grade ≤ levelAt levels r z) e (of .levels-of .most i h)) le
-            (claimed r v (λ p. slots-allow G slots S r f g v .0 (λ j hj w.
-            let same = governs-same G (slotRole slots j) r .0 w in
-            let u = of .lists x hx .onto j hj (rw same p) in
-            rw (← same, ← row-a .own-is j hj, ← row-b .child-is j hj) (subst (λ (k : Constraint). Met l k a b) (u .3) (m (u .0) (u .2))))))
+            slots-allow G slots S (linkAt ls i .role) f g (linkAt ls i .grade) .0 (λ j hj bounds.
+            let t = slotRole slots j in
+            let v = levelAt levels t x in
+            let le : linkAt ls i .grade ≤ v = subst (λ (z : ℕ). linkAt ls i .grade ≤ levelAt levels t z) e (of .levels-of .most i t h (roles j hj) bounds) in
+            dite (decLt 0 v)
+            (λ p. let u = of .lists x hx .onto j hj p in
+            weaker j hj (linkAt ls i .grade) v le (levels-le l ls levels (l .steps) links (of .levels-of) t x (roles j hj) hx)
+            (rw (← row-a .own-is j hj, ← row-b .child-is j hj) (subst (λ (k : Constraint). Met l k a b) (u .3) (m (u .0) (u .2)))))
+            (λ n. let z : 0 ≡ linkAt ls i .grade = omega arith in
+            subst (λ (s : ℕ). Permits (connectivesOf l) (slotQuantifier slots j) s (g (slotChild slots j)) (f (slotTerm slots j))) z (none j hj)))
 
         from : ClaimsMet G ls x f g → AllMet l (constraintsOf net ends x) a b
         from c y h =
             let w = of .lists x hx .are y (omega arith) h in
             let j = w .0 in
-            let r = slotRole slots j in
-            let v = levelAt levels r x in
+            let t = slotRole slots j in
+            let v = levelAt levels t x in
             subst (λ (k : Constraint). Met l k a b) (sym (w .2))
-            (rw (row-a .own-is j (w .1), row-b .child-is j (w .1)) (slots-allow G slots S r f g v .1
-            (claimed r v (λ p. let u = of .levels-of .some r x (roles j (w .1)) hx p in
-            subst (Allows G r f g) (u .4)
-            (subst (λ (z : ℕ). Allows G z f g (linkAt ls (u .0) .grade)) (u .2) (c (u .0) (u .1) (u .3)))))
-            j (w .1) (governs-same G r r .1 refl)))
+            (rw (row-a .own-is j (w .1), row-b .child-is j (w .1))
+            (dite (decLt 0 v)
+            (λ p. let u = of .levels-of .some t x (roles j (w .1)) hx p in
+            subst (λ (s : ℕ). Permits (connectivesOf l) (slotQuantifier slots j) s (g (slotChild slots j)) (f (slotTerm slots j))) (u .4)
+            (slots-allow G slots S (linkAt ls (u .0) .role) f g (linkAt ls (u .0) .grade) .1 (c (u .0) (u .1) (u .3)) j (w .1) (u .2)))
+            (λ n. let z : 0 ≡ v = omega arith in
+            subst (λ (s : ℕ). Permits (connectivesOf l) (slotQuantifier slots j) s (g (slotChild slots j)) (f (slotTerm slots j))) z (none j (w .1)))))

@@ -37,19 +37,19 @@ pub record Wired (l : Logic) (m : ℕ) (net ends : List ℕ) : Type 0 where
 -- ---- where the constraints come from
 
 module _ (slots levels : List ℕ) (x : ℕ) where
-  -- what slot j asks through the strongest link claimed of its role and pair x, of its columns in a row of the slots
+  -- what slot j asks through the strongest link claimed of a role that its own bounds, and of pair x, of its columns in a row of the slots
   abbrev pub ofSlot : ℕ → Constraint
   ofSlot j = record { kind = slotKind slots j; level = levelAt levels (slotRole slots j) x; own = j; child = slotCount slots + j }
 
-  -- constraints `from` to `to` of the list are those of the slots below b for whose role a link is claimed
+  -- constraints `from` to `to` of the list are those of the slots below b whose role bounds a link that is claimed
   pub record Lists (b : ℕ) (s : List ℕ) (from to : ℕ) : Type 0 where
     pub are : (y : ℕ) → from ≤ y → y < to → (j : ℕ) × (j < b) × (constraintAt s y ≡ ofSlot j)
     pub onto : (j : ℕ) → j < b → 0 < levelAt levels (slotRole slots j) x → (y : ℕ) × (from ≤ y) × (y < to) × (constraintAt s y ≡ ofSlot j)
 
 -- the network is that of the link claims, by their levels
-pub record NetworkOf (slots ls levels net ends : List ℕ) : Type 0 where
+pub record NetworkOf (l : Logic) (slots ls levels net ends : List ℕ) : Type 0 where
   pub laid : Laid net ends
-  pub levels-of : LevelsOf ls (claimCount ls) levels
+  pub levels-of : LevelsOf l ls (claimCount ls) levels
   pub lists : (x : ℕ) → x < 64 → Lists slots levels x (slotCount slots) (constraintsOf net ends x) 0 (constraintCount (constraintsOf net ends x))
 
 -- what it stands for (`network-met` of proofs/Network): every link claim of pair x is met, where f and g give the grades of the two individuals
@@ -58,7 +58,7 @@ ClaimsMet G ls x f g = (i : ℕ) → i < claimCount ls → pairOf (linkAt ls i) 
 
 -- ---- on the way
 
--- behind the first m constraints of `old`, `new` has that of slot j, if a link is claimed for its role, up to r
+-- behind the first m constraints of `old`, `new` has that of slot j, if its role bounds a link that is claimed, up to r
 pub record SlotAdded (slots levels : List ℕ) (x j : ℕ) (old : List ℕ) (m : ℕ) (new : List ℕ) (r : ℕ) : Type 0 where
   pub more : m ≤ r
   pub few : r ≤ m + 1

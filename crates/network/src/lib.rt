@@ -9,11 +9,12 @@ ghost use Rattle.slots.specs.Slots.{slotCount, slotRole};
 ghost use Rattle.slots.specs.Rows.{TermsBelow, SlotRow};
 ghost use Rattle.grades.specs.Rows.{entry};
 ghost use Rattle.network.specs.Rows.{rowAt};
-ghost use Rattle.network.specs.Levels.{ClaimsRanged, LevelsOf};
+ghost use Rattle.network.specs.Levels.{ClaimsRanged, LevelsOf, NotedFor};
 ghost use Rattle.network.specs.Constraints.{constraintCount, constraintAt, Met, AllMet, AllRight};
 ghost use Rattle.network.specs.Network.{between as betweenOf, Laid, NetworkOf, SlotAdded, Added, Connected};
 use encoding::wide;
 use gradings::Logic;
+use gradings::governs;
 use gradings::permits;
 use slots::put_slot_row;
 
@@ -49,40 +50,58 @@ pub fn put_row(slots: &[u8], row: &[u8], rows: &mut [u8], k: usize)
     put_slot_row(slots, row, &mut rows[start..end]);
 }
 
-// ---- the strongest claim of each role and pair
+// ---- the strongest claim that each role's terms bound, for each pair
 
-// Notes link claim `i`.
-fn note_claim(links: &[u8], i: usize, levels: &mut [u8])
-    requires { ⌜ (i < claimCount (now links)) × ClaimsRanged (now links) × (512 ≤ length (now levels)) ⌝ }
-    requires { ⌜ LevelsOf (now links) i (now levels) ⌝ }
-    ensures { λ _. ⌜ LevelsOf (now (links .entry)) (i + 1) (now (levels .exit)) ⌝ }
+// Notes for the role `t` a claim of this role and grade; `at` is where the level of `t` and the claim's pair stands.
+fn note_for(logic: Logic, t: u8, role: u8, grade: u8, levels: &mut [u8], at: usize)
+    requires { ⌜ at < length (now levels) ⌝ }
+    ensures { λ _. ⌜ NotedFor logic t role grade at (now (levels .entry)) (now (levels .exit)) ⌝ }
 {
-    let role = wide(links[4 * i]);
-    let source = wide(links[4 * i + 1]);
-    let target = wide(links[4 * i + 2]);
-    let grade = links[4 * i + 3];
-    let at = 64 * role + (8 * source + target);
+    if !governs(logic, t, role) {
+        return;
+    }
     if levels[at] < grade {
         levels[at] = grade;
     }
 }
 
+// Notes link claim `i`, for its role and those above it.
+fn note_claim(logic: Logic, links: &[u8], i: usize, levels: &mut [u8])
+    requires { ⌜ (i < claimCount (now links)) × ClaimsRanged (now links) × (512 ≤ length (now levels)) ⌝ }
+    requires { ⌜ LevelsOf logic (now links) i (now levels) ⌝ }
+    ensures { λ _. ⌜ LevelsOf logic (now (links .entry)) (i + 1) (now (levels .exit)) ⌝ }
+{
+    let pair = 8 * wide(links[4 * i + 1]) + wide(links[4 * i + 2]);
+    let mut t = 0;
+    while t < 8 {
+        note_for(
+            logic,
+            t,
+            links[4 * i],
+            links[4 * i + 3],
+            levels,
+            64 * wide(t) + pair,
+        );
+        t += 1;
+    }
+}
+
 // Notes all of them. The levels are 0 before.
-fn note_claims(links: &[u8], levels: &mut [u8])
+fn note_claims(logic: Logic, links: &[u8], levels: &mut [u8])
     requires { ⌜ ClaimsRanged (now links) × (512 ≤ length (now levels)) × ((z : ℕ) → getD (now levels) z 0 ≡ 0) ⌝ }
-    ensures { λ _. ⌜ LevelsOf (now (links .entry)) (claimCount (now (links .entry))) (now (levels .exit)) ⌝ }
+    ensures { λ _. ⌜ LevelsOf logic (now (links .entry)) (claimCount (now (links .entry))) (now (levels .exit)) ⌝ }
 {
     let count = links.len() / 4;
     let mut i = 0;
     while i < count {
-        note_claim(links, i, levels);
+        note_claim(logic, links, i, levels);
         i += 1;
     }
 }
 
 // ---- the constraints of each pair
 
-// Adds as number `m` what slot `j` asks through the strongest link claimed of its role and pair `x`. The number of constraints.
+// Adds as number `m` what slot `j` asks through the strongest link claimed of a role that its own bounds, and of pair `x`. The number of constraints.
 fn put_slot(slots: &[u8], levels: &[u8], x: usize, j: usize, net: &mut [u8], m: usize) -> usize
     requires { ⌜ (j < slotCount (now slots)) × (slotCount (now slots) ≤ 16) × (slotRole (now slots) j < 8) × (x < 64) × (512 ≤ length (now levels))
         × (4 * m + 4 ≤ length (now net)) ⌝ }
@@ -134,13 +153,13 @@ fn connect_by(slots: &[u8], levels: &[u8], net: &mut [u8], ends: &mut [u16])
 }
 
 // Makes the network of the link claims.
-pub fn connect(slots: &[u8], links: &[u8], net: &mut [u8], ends: &mut [u16])
+pub fn connect(logic: Logic, slots: &[u8], links: &[u8], net: &mut [u8], ends: &mut [u16])
     requires { ⌜ (slotCount (now slots) ≤ 16) × ((j : ℕ) → j < slotCount (now slots) → slotRole (now slots) j < 8) ⌝ }
     requires { ⌜ ClaimsRanged (now links) × (4096 ≤ length (now net)) × (65 ≤ length (now ends)) × (getD (now ends) 0 0 ≡ 0) ⌝ }
-    ensures { λ _. ⌜ ((levels : List ℕ) × NetworkOf (now (slots .entry)) (now (links .entry)) levels (now (net .exit)) (now (ends .exit))) ⌝ }
+    ensures { λ _. ⌜ ((levels : List ℕ) × NetworkOf logic (now (slots .entry)) (now (links .entry)) levels (now (net .exit)) (now (ends .exit))) ⌝ }
 {
     let mut levels = [0u8; 512];
-    note_claims(links, &mut levels);
+    note_claims(logic, links, &mut levels);
     connect_by(slots, &levels, net, ends);
 }
 

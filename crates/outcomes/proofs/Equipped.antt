@@ -14,7 +14,7 @@ use Rattle.claims.specs.Books.{bookOfSections}
 use Rattle.gradings.specs.Gradings.{grading}
 use Rattle.gradings.specs.declared.Logic.{Logic}
 use Rattle.slots.proofs.Collecting.{places-few}
-use Rattle.layout.specs.Layout.{termBytes, ruleBytes, membershipBytes, linkBytes}
+use Rattle.layout.specs.Layout.{termBytes, ruleBytes, pairBytes, membershipBytes, linkBytes}
 use Rattle.book.specs.Reading.{bookAt, bookOf}
 use Rattle.layout.specs.declared.Sections.{Sections}
 use Rattle.book.proofs.Reading.{right-book, right-terms, right-few}
@@ -60,17 +60,17 @@ module _ (b : List ℕ) (s : Sections) (l : Logic) (slots : List ℕ) (w : Equip
 
   -- ---- placing
 
-  -- the rules play no part in it
-  placing-same : (G : Grading) (rs ms ls xs : List ℕ) → placementAmong (bookOfSections G [] ms ls) xs ≡ placementAmong (bookOfSections G rs ms ls) xs
+  -- rules and pairs play no part in it
+  placing-same : (G : Grading) (rs ps ms ls xs : List ℕ) → placementAmong (bookOfSections G [] [] ms ls) xs ≡ placementAmong (bookOfSections G rs ps ms ls) xs
   unfolding placementAmong individuals holds?
-  placing-same G rs ms ls xs = refl
+  placing-same G rs ps ms ls xs = refl
 
   module _ (terms ms ls : List ℕ) (et : terms ≡ termBytes b s) (em : ms ≡ membershipBytes b s) (el : ls ≡ linkBytes b s) where
     pub placing-is : (xs : List ℕ) → xs ≡ survivorsOf (bookOf b) → placementAmong (claimsBook l terms ms ls) xs ≡ placement (bookOf b)
     unfolding placement
     placing-is xs e =
-        rw (et, em, el) (placing-same (grading l (termsOf (termBytes b s))) (ruleBytes b s) (membershipBytes b s) (linkBytes b s) xs
-        ∙ ap (λ (G : Grading). placementAmong (bookOfSections G (ruleBytes b s) (membershipBytes b s) (linkBytes b s)) xs) stands-at
+        rw (et, em, el) (placing-same (grading l (termsOf (termBytes b s))) (ruleBytes b s) (pairBytes b s) (membershipBytes b s) (linkBytes b s) xs
+        ∙ ap (λ (G : Grading). placementAmong (bookOfSections G (ruleBytes b s) (pairBytes b s) (membershipBytes b s) (linkBytes b s)) xs) stands-at
         ∙ ap₂ placementAmong (right-book b s (w .right)) e)
 
     individuals-are : individuals (claimsBook l terms ms ls) ≡ individuals (bookOf b)

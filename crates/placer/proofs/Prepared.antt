@@ -38,7 +38,7 @@ use Rattle.placer.specs.Placing.{Task, claimsBook}
 -- what the task is searched by: the network of the link claims
 pub record Prepared (lg : Logic) (ts slots ms ls marks : List ℕ) (count n : ℕ) (net ends : List ℕ) : Type 0 where
   pub task : Task lg ts slots ms ls marks count n
-  pub network : (levels : List ℕ) × NetworkOf slots ls levels net ends
+  pub network : (levels : List ℕ) × NetworkOf lg slots ls levels net ends
 
 module _ {lg : Logic} {ts slots ms ls marks : List ℕ} {count n : ℕ} {net ends : List ℕ} (w : Prepared lg ts slots ms ls marks count n net ends) where
   abbrev G : Grading

@@ -18,7 +18,7 @@ use Rattle.placer.specs.Walk.{placed}
 
 -- the book, but for its rules: no placement looks at them
 abbrev pub claimsBook : Logic → (terms ms ls : List ℕ) → Book
-claimsBook l ts ms ls = bookOfSections (grading l (termsOf ts)) [] ms ls
+claimsBook l ts ms ls = bookOfSections (grading l (termsOf ts)) [] [] ms ls
 
 -- the sections are right, the slots are the quantified terms, and n is the number of individuals; candidates below `count` have a mark
 pub record Task (l : Logic) (terms slots ms ls marks : List ℕ) (count n : ℕ) : Type 0 where

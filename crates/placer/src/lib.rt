@@ -308,7 +308,7 @@ fn place_in(
         × (131072 ≤ length (now table)) × ((i : ℕ) → getD (now table) i 0 ≡ 0) ⌝ }
     ensures { λ r. ⌜ Places logic (now (terms .entry)) (now (memberships .entry)) (now (links .entry)) (now (marks .entry)) count individuals r (now (seats .exit)) ⌝ }
 {
-    network::connect(slots, links, net, ends);
+    network::connect(logic, slots, links, net, ends);
     filter::fill_tables(
         logic,
         terms,

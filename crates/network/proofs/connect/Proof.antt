@@ -30,7 +30,7 @@ returns c =
     let s = c .before .before .before .before .before .before .before .before .before .before .before .before .before .before .before in
     let d = c .before .before .before .before .connect-by in
     let levels = c .before .before .before .before .before .before .before .before .before .note-claims .ensures in
-    (_, connected-network (s .args .slots .now) _ (s .args .links .now) _ _ (d .ensures .0) levels (omega (arith, s .pre .1 .1, d .kept .1 .1 .0)) (d .ensures .1))
+    (_, connected-network (s .args .slots .now) _ (s .args .logic) (s .args .links .now) _ _ (d .ensures .0) levels (omega (arith, s .pre .1 .1, d .kept .1 .1 .0)) (d .ensures .1))
 
 pub connect-spec : {M : Type 1} → statement M
 connect-spec =

@@ -19,10 +19,10 @@ module _ (c : tie.After-connect) where
   start = c .before .before .before .before .before .before .before .before .before .before .before .before .before
 
   abbrev net : List ℕ
-  net = c .connect .last .1 .1 .0
+  net = c .connect .last .1 .1 .1 .0
 
   abbrev ends : List ℕ
-  ends = c .connect .last .1 .1 .1 .0
+  ends = c .connect .last .1 .1 .1 .1 .0
 
   prepared : let a = start .args in
       Prepared (a .logic) (a .terms .now) (a .slots .now) (a .memberships .now) (a .links .now) (a .marks .now) (a .count) (a .individuals) net ends
@@ -30,7 +30,7 @@ module _ (c : tie.After-connect) where
 
   solvable : (rows : List ℕ) → 524288 ≤ length rows
       → let a = start .args in Problem (a .logic) (2 * slotCount (a .slots .now)) net ends (a .count) (a .individuals) rows
-  solvable rows = problem prepared rows (omega (arith, c .connect .kept .1 .1 .1 .0, start .pre .1 .1 .1))
+  solvable rows = problem prepared rows (omega (arith, c .connect .kept .1 .1 .1 .1 .0, start .pre .1 .1 .1))
 
 -- once the rows and the table are filled
 module _ (c : tie.After-fill-tables) where
