@@ -1,3 +1,4 @@
 pub mod Opening
 pub mod Reading
+pub mod Pairs
 pub mod Writing

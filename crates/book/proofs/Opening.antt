@@ -5,13 +5,13 @@ use mathlib.Core.Option.{Option, none, some}
 use mathlib.Core.List.{List}
 use Prim.Native.Nat.{ℕ, _≤_}
 use native.Mathlib.Omega.{arith}
-use lib.ListN.{length}
 use Rattle.chain.specs.Questions.{firstNo}
 use Rattle.chain.proofs.Questions.{first-empty, first-yes, first-no, first-none}
 use Rattle.sections.specs.Terms.{TermsRight}
 use Rattle.claims.specs.Rules.{RulesRight}
+use Rattle.claims.specs.Pairs.{PairsRight}
 use Rattle.claims.specs.Claims.{MembershipsRight, LinksRight}
-use Rattle.layout.specs.Layout.{steps, sectionsOf, LengthRight, EditionRight, StepsRight, CountsRight, LaidOut, termBytes, ruleBytes, membershipBytes, linkBytes, termsIn}
+use Rattle.layout.specs.Layout.{steps, sectionsOf, LengthRight, EditionRight, StepsRight, CountsRight, LaidOut, InOrder, termBytes, ruleBytes, membershipBytes, linkBytes, pairBytes, termsIn}
 use Rattle.book.specs.Opening.{bodyQuestions, bookQuestions, Accepts, Right, opened, openedOf, openedNumber}
 use Rattle.layout.specs.declared.Sections.{Sections}
 use Rattle.book.specs.declared.Opened.{Opened}
@@ -32,6 +32,9 @@ module _ (b : List ℕ) (s : Sections) where
   abbrev Links : Type 0
   Links = LinksRight (linkBytes b s) (s .steps)
 
+  abbrev Pairs : Type 0
+  Pairs = PairsRight (pairBytes b s)
+
   pub body-6 : ¬ Terms → opened s (firstNo (bodyQuestions b s)) ≡ Refused 6
   body-6 n = ap (opened s) (first-no _ _ _ n)
 
@@ -44,8 +47,12 @@ module _ (b : List ℕ) (s : Sections) where
   pub body-9 : Terms → Rules → Memberships → ¬ Links → opened s (firstNo (bodyQuestions b s)) ≡ Refused 9
   body-9 t r m n = ap (opened s) (first-yes _ _ _ t ∙ first-yes _ _ _ r ∙ first-yes _ _ _ m ∙ first-no _ _ _ n)
 
-  pub body-none : Terms → Rules → Memberships → Links → opened s (firstNo (bodyQuestions b s)) ≡ Accepted s
-  body-none t r m l = ap (opened s) (first-yes _ _ _ t ∙ first-yes _ _ _ r ∙ first-yes _ _ _ m ∙ first-yes _ _ _ l ∙ first-empty)
+  pub body-22 : Terms → Rules → Memberships → Links → ¬ Pairs → opened s (firstNo (bodyQuestions b s)) ≡ Refused 22
+  body-22 t r m l n = ap (opened s) (first-yes _ _ _ t ∙ first-yes _ _ _ r ∙ first-yes _ _ _ m ∙ first-yes _ _ _ l ∙ first-no _ _ _ n)
+
+  pub body-none : Terms → Rules → Memberships → Links → Pairs → opened s (firstNo (bodyQuestions b s)) ≡ Accepted s
+  body-none t r m l p =
+      ap (opened s) (first-yes _ _ _ t ∙ first-yes _ _ _ r ∙ first-yes _ _ _ m ∙ first-yes _ _ _ l ∙ first-yes _ _ _ p ∙ first-empty)
 
 -- ---- the head, and then the bodies
 
@@ -77,10 +84,9 @@ module _ (b : List ℕ) where
       ap (opened (sectionsOf b)) (first-yes _ _ _ l ∙ first-yes _ _ _ e ∙ first-yes _ _ _ p ∙ first-yes _ _ _ k ∙ first-yes _ _ _ o)
 
   -- where the layout is right, the sections follow one another up to the end
-  pub sections-ordered : LaidOut b (sectionsOf b) → (sectionsOf b .terms ≤ sectionsOf b .rules) × (sectionsOf b .rules ≤ sectionsOf b .memberships)
-      × (sectionsOf b .memberships ≤ sectionsOf b .links) × (sectionsOf b .links ≤ sectionsOf b .end) × (sectionsOf b .end ≤ length b)
+  pub sections-ordered : LaidOut b (sectionsOf b) → InOrder b (sectionsOf b)
   unfolding sectionsOf
-  sections-ordered o = (omega arith, omega arith, omega arith, omega arith, omega (arith, o .1 .1 .1 .1))
+  sections-ordered o = (omega arith, omega arith, omega arith, omega arith, omega arith, omega (arith, o .1 .1 .1 .1 .1))
 
   -- ---- an accepted book passed every check
 
@@ -105,6 +111,7 @@ module _ (b : List ℕ) where
       let q7 = first-none _ _ _ (q6 .1) in
       let q8 = first-none _ _ _ (q7 .1) in
       let q9 = first-none _ _ _ (q8 .1) in
+      let q22 = first-none _ _ _ (q9 .1) in
       record {
         sections-are = refl;
         length-right = q1 .0;
@@ -116,6 +123,7 @@ module _ (b : List ℕ) where
         rules-right = q7 .0;
         memberships-right = q8 .0;
         links-right = q9 .0;
+        pairs-right = q22 .0;
       }
 
   pub opened-accepted : (s : Sections) → openedOf b ≡ Accepted s → Right b s
@@ -137,7 +145,7 @@ module _ (b : List ℕ) where
 -- ---- what later calls take from an accepted book
 
 module _ (b : List ℕ) (s : Sections) (ok : Right b s) where
-  pub right-ordered : (s .terms ≤ s .rules) × (s .rules ≤ s .memberships) × (s .memberships ≤ s .links) × (s .links ≤ s .end) × (s .end ≤ length b)
+  pub right-ordered : InOrder b s
   right-ordered = rw (ok .sections-are) (sections-ordered b (subst (LaidOut b) (ok .sections-are) (ok .laid-out)))
 
   pub right-steps : (1 ≤ s .steps) × (s .steps ≤ 8)
@@ -150,7 +158,8 @@ module _ (b : List ℕ) (s : Sections) (ok : Right b s) where
       first-yes _ _ _ (ok .length-right) ∙ first-yes _ _ _ (ok .edition-right) ∙ first-yes _ _ _ (ok .steps-right) ∙ first-yes _ _ _ (ok .counts-right)
       ∙ first-yes _ _ _ (subst (LaidOut b) e (ok .laid-out))
       ∙ subst (λ (t : Sections). firstNo (bodyQuestions b t) ≡ none) e
-      (first-yes _ _ _ (ok .terms-right) ∙ first-yes _ _ _ (ok .rules-right) ∙ first-yes _ _ _ (ok .memberships-right) ∙ first-yes _ _ _ (ok .links-right) ∙ first-empty)
+      (first-yes _ _ _ (ok .terms-right) ∙ first-yes _ _ _ (ok .rules-right) ∙ first-yes _ _ _ (ok .memberships-right) ∙ first-yes _ _ _ (ok .links-right)
+      ∙ first-yes _ _ _ (ok .pairs-right) ∙ first-empty)
 
 -- ---- the answer's number is the first no
 

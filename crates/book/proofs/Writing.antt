@@ -1,10 +1,11 @@
 -- Laws of writing: an accepted book's bytes are those written for its reading, so no other accepted book is read as it is.
 -- Assumes nothing.
-use mathlib.Core.Path.{_≡_, refl, sym, ap, _∙_}
+use mathlib.Core.Path.{_≡_, refl, sym, ap₂, _∙_}
 use mathlib.Core.List.{List, [], _∷_, flatMap}
 use Prim.Native.Nat.{ℕ, zero, suc, _+_, _*_, _≤_, _<_}
+use native.Mathlib.Decide.{ℕ-discrete}
 use native.Mathlib.Omega.{arith}
-use lib.ListN.{length, getD, take, drop}
+use lib.ListN.{length, take, drop}
 use lib.Seq.{take-all, take-add, drop-drop}
 use Rattle.chain.specs.Lists.{table}
 use Rattle.chain.proofs.Blocks.{take-table, blocks-front}
@@ -16,10 +17,12 @@ use Rattle.claims.specs.Claims.{senseOf, senseAt}
 use Rattle.sections.proofs.Terms.{by-kind, described-kind, terms-bytes}
 use Rattle.claims.proofs.Rules.{rules-bytes}
 use Rattle.claims.proofs.Claims.{memberships-bytes, links-bytes}
-use Rattle.layout.specs.Layout.{countAt, sectionsOf, termBytes, ruleBytes, membershipBytes, linkBytes}
+use Rattle.claims.proofs.Pairs.{pairs-bytes}
+use Rattle.layout.specs.Layout.{edition, steps, countAt, countOfPairs, head, sectionsOf, termBytes, ruleBytes, membershipBytes, linkBytes, pairBytes}
+use Rattle.layout.proofs.Editions.{edition-second, edition-other, head-second, head-other}
 use Rattle.book.specs.Reading.{bookOf}
-use Rattle.book.specs.Opening.{Accepts}
-use Rattle.book.specs.Writing.{termBytesOf, ruleBytesOf, senseByte, membershipBytesOf, linkBytesOf, bytesOf}
+use Rattle.book.specs.Opening.{Accepts, Right}
+use Rattle.book.specs.Writing.{termBytesOf, ruleBytesOf, senseByte, membershipBytesOf, linkBytesOf, pairBytesOf, entriesOf, bytesOf}
 use Rattle.book.proofs.Opening.{accepts-right}
 
 -- ---- the bodies: each record is written as its bytes
@@ -45,18 +48,46 @@ sense-written (suc (suc k)) h = absurd (omega arith)
 -- ---- the contents
 
 module _ (b : List ℕ) (bytes : Bytes b) where
-  -- byte 0, byte 1, and eight two-byte numbers
-  contents-written : 18 ≤ length b → getD b 0 0 ∷ getD b 1 0 ∷ flatMap wordBytes (table (λ k. wordAt b (2 + 2 * k)) 8) ≡ take 18 b
+  -- byte 0, byte 1, and n two-byte numbers
+  contents-front : (n : ℕ) → 2 + 2 * n ≤ length b
+      → edition b ∷ steps b ∷ flatMap wordBytes (table (λ k. wordAt b (2 + 2 * k)) n) ≡ take (2 + 2 * n) b
   unfolding table
-  contents-written h =
-      let words : flatMap wordBytes (table (λ k. wordAt b (2 + 2 * k)) 8) ≡ take 16 (drop 2 b) =
-      blocks-front wordBytes 2 8 (λ k. wordAt b (2 + 2 * k)) (drop 2 b) (λ i l. word-written b bytes (2 + 2 * i) (omega arith) ∙ rw drop-drop) in
-      rw (words, take-add 2 16 b, take-table 0 b 0 2 (omega arith))
+  contents-front n h =
+      let words : flatMap wordBytes (table (λ k. wordAt b (2 + 2 * k)) n) ≡ take (2 * n) (drop 2 b) =
+      blocks-front wordBytes 2 n (λ k. wordAt b (2 + 2 * k)) (drop 2 b) (λ i l. word-written b bytes (2 + 2 * i) (omega arith) ∙ rw drop-drop) in
+      rw (words, take-add 2 (2 * n) b, take-table 0 b 0 2 (omega arith))
+
+  -- the entries, by the counts
+  abbrev entries : List ℕ
+  entries = entriesOf (edition b) (countAt b 0) (countAt b 1) (countAt b 2) (countAt b 3) (countOfPairs b)
+
+  contents-written : Right b (sectionsOf b) → edition b ∷ steps b ∷ flatMap wordBytes entries ≡ take (head (edition b)) b
+  unfolding sectionsOf table
+  contents-written ok = go (ℕ-discrete (edition b) 2)
+    where
+      -- what a fifth entry says
+      fifth : List ℕ
+      fifth = sectionsOf b .pairs ∷ countOfPairs b ∷ []
+
+      go : Dec (edition b ≡ 2) → edition b ∷ steps b ∷ flatMap wordBytes entries ≡ take (head (edition b)) b
+      go (yes e) =
+          let long = ok .length-right .0 in
+          let h = head-second (edition b) e in
+          let o = ok .laid-out in
+          let same : entries ≡ table (λ k. wordAt b (2 + 2 * k)) 10 =
+          cc (edition-second (edition b) fifth [] e, edition-second (edition b) (countAt b 4) 0 e, o .1 .1 .1 .1 .0 e) in
+          rw (same, h) (contents-front 10 (omega arith))
+      go (no n) =
+          let long = ok .length-right .0 in
+          let h = head-other (edition b) n in
+          let o = ok .laid-out in
+          let same : entries ≡ table (λ k. wordAt b (2 + 2 * k)) 8 = cc (edition-other (edition b) fifth [] n) in
+          rw (same, h) (contents-front 8 (omega arith))
 
 -- ---- the book
 
 -- an accepted book is written as it was read
-pub bytesOf-bookOf : (b : List ℕ) → Bytes b → Accepts b → bytesOf (bookOf b) ≡ b
+pub bytesOf-bookOf : (b : List ℕ) → Bytes b → Accepts b → bytesOf (edition b) (bookOf b) ≡ b
 unfolding bytesOf bookOf sectionsOf table
 bytesOf-bookOf b bytes accepts =
     let ok = accepts-right b accepts in
@@ -65,16 +96,24 @@ bytesOf-bookOf b bytes accepts =
     let r : ℕ = 2 * countAt b 1 in
     let m : ℕ = 4 * countAt b 2 in
     let l : ℕ = 4 * countAt b 3 in
+    let p : ℕ = 2 * countOfPairs b in
     let terms = terms-bytes (termBytes b s) termBytesOf (countAt b 0) (stretch-length b (s .terms) t (omega arith))
     (λ i h. term-written i _ _ _ (ok .terms-right i h .0)) in
     let rules = rules-bytes (ruleBytes b s) ruleBytesOf (countAt b 1) (stretch-length b (s .rules) r (omega arith)) (λ i h. refl) in
     let memberships = memberships-bytes (membershipBytes b s) membershipBytesOf (countAt b 2) (stretch-length b (s .memberships) m (omega arith))
     (λ i h. cc (sense-written (senseAt (membershipBytes b s) i) (ok .memberships-right i h .1 .1 .0))) in
     let links = links-bytes (linkBytes b s) linkBytesOf (countAt b 3) (stretch-length b (s .links) l (omega arith)) (λ i h. refl) in
-    let contents = contents-written b bytes (ok .length-right .0) in
+    let pairs = pairs-bytes (pairBytes b s) pairBytesOf (countOfPairs b) (stretch-length b (s .pairs) p (omega arith)) (λ i h. refl) in
+    let contents = contents-written b bytes ok in
     let whole : take (s .end) b ≡ b = take-all (s .end) b (omega arith) in
-    cc (stretch-next b (s .terms) t, stretch-next b (s .rules) r, stretch-next b (s .memberships) m, stretch-next b (s .links) l)
+    cc (
+      stretch-next b (s .terms) t,
+      stretch-next b (s .rules) r,
+      stretch-next b (s .memberships) m,
+      stretch-next b (s .links) l,
+      stretch-next b (s .pairs) p,
+    )
 
--- so the reading determines the bytes
-pub reading-inj : (b c : List ℕ) → Bytes b → Bytes c → Accepts b → Accepts c → bookOf b ≡ bookOf c → b ≡ c
-reading-inj b c p q h k e = sym (bytesOf-bookOf b p h) ∙ ap bytesOf e ∙ bytesOf-bookOf c q k
+-- so the reading, with the edition, determines the bytes
+pub reading-inj : (b c : List ℕ) → Bytes b → Bytes c → Accepts b → Accepts c → edition b ≡ edition c → bookOf b ≡ bookOf c → b ≡ c
+reading-inj b c p q h k e f = sym (bytesOf-bookOf b p h) ∙ ap₂ bytesOf e f ∙ bytesOf-bookOf c q k

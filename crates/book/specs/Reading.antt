@@ -5,14 +5,17 @@ use Prim.Native.Nat.{ℕ}
 use Rattle.semantics.specs.Interpretations.{graded}
 use Rattle.semantics.specs.Books.{Book, nameCount, roleCount, individuals}
 use Rattle.sections.specs.Terms.{termsOf}
+use Rattle.claims.specs.Pairs.{pairsOf}
 use Rattle.claims.specs.Books.{bookOfSections}
-use Rattle.layout.specs.Layout.{sectionsOf, termBytes, ruleBytes, membershipBytes, linkBytes}
+use Rattle.layout.specs.Layout.{sectionsOf, termBytes, ruleBytes, membershipBytes, linkBytes, pairBytes}
 use Rattle.layout.specs.declared.Sections.{Sections}
 use Rattle.book.specs.declared.Counts.{Counts}
 
 -- the book whose sections stand in b at s
 abbrev pub bookAt : List ℕ → Sections → Book
-bookAt b s = bookOfSections (graded (s .steps) (termsOf (termBytes b s))) (ruleBytes b s) (membershipBytes b s) (linkBytes b s)
+bookAt b s =
+    bookOfSections (graded (s .steps) (termsOf (termBytes b s)) (pairsOf (pairBytes b s))) (ruleBytes b s) (pairBytes b s) (membershipBytes b s)
+    (linkBytes b s)
 
 unfoldable pub bookOf : List ℕ → Book
 bookOf b = bookAt b (sectionsOf b)

@@ -43,10 +43,13 @@ fn open_bodies(b: &[u8], s: Sections) -> Opened
     if !claims::links_right(layout::links_in(b, s), s.steps) {
         return Opened::Refused(9);
     }
+    if !claims::pairs_right(layout::pairs_in(b, s)) {
+        return Opened::Refused(22);
+    }
     Opened::Accepted(s)
 }
 
-// Checks a book: 1 to 9, in order.
+// Checks a book: 1 to 9 and 22, in order.
 pub fn open(b: &[u8]) -> Opened
     ensures { λ r. ⌜ r ≡ openedOf (now (b .entry)) ⌝ }
     ensures { λ r. ⌜ openedNumber r ≡ firstNo (bookQuestions (now (b .entry))) ⌝ }
@@ -54,7 +57,7 @@ pub fn open(b: &[u8]) -> Opened
     if !layout::length_right(b) {
         return Opened::Refused(1);
     }
-    if b[0] != 1 {
+    if !layout::edition_right(b) {
         return Opened::Refused(2);
     }
     if !layout::steps_right(b) {
@@ -79,9 +82,10 @@ pub fn counts_in(b: &[u8], s: Sections) -> Counts
     ensures { λ r. ⌜ (r .names ≤ 16) × (r .roles ≤ 8) × (r .individuals ≤ 8) ⌝ }
 {
     let links = layout::links_in(b, s);
+    let pairs = layout::pairs_in(b, s);
     Counts {
         names: counts::count_names(layout::terms_in(b, s)),
-        roles: counts::count_roles(layout::terms_in(b, s), links),
+        roles: counts::count_roles(layout::terms_in(b, s), links, pairs),
         individuals: counts::count_individuals(layout::memberships_in(b, s), links),
     }
 }
@@ -92,5 +96,5 @@ pub fn logic_in(b: &[u8], s: Sections) -> Logic
     ensures { λ r. ⌜ grading r (termsOf (termBytes (now (b .entry)) s)) ≡ bookOf (now (b .entry)) .grading ⌝ }
     ensures { λ r. ⌜ (1 ≤ r .steps) × (r .steps ≤ 8) ⌝ }
 {
-    gradings::base_logic(s.steps)
+    gradings::ranked_logic(s.steps, layout::pairs_in(b, s))
 }

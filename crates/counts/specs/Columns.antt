@@ -1,11 +1,10 @@
--- One byte of each record of a claims' section.
+-- One byte of each record of a section.
 -- Assumes nothing.
 use mathlib.Core.List.{List}
-use Prim.Native.Nat.{ℕ, _+_, _*_}
-use lib.ListN.{getD}
+use Prim.Native.Nat.{ℕ, _+_, _*_, _/_}
+use lib.ListN.{length, getD}
 use Rattle.chain.specs.Lists.{table}
-use Rattle.claims.specs.Claims.{claimCount}
 
--- byte k of each record of four
-unfoldable pub column : List ℕ → (k : ℕ) → List ℕ
-column s k = table (λ i. getD s (4 * i + k) 0) (claimCount s)
+-- byte k of each record of w bytes
+unfoldable pub column : List ℕ → (w k : ℕ) → List ℕ
+column s w k = table (λ i. getD s (w * i + k) 0) (length s / w)

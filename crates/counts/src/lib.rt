@@ -2,8 +2,9 @@
 ghost use mathlib.Core.Path.{_≡_};
 ghost use Prim.Native.Nat.{suc, _<_, max};
 ghost use Rattle.chain.specs.Lists.{highest};
-ghost use Rattle.semantics.specs.Books.{nameAbove, roleAbove, linkRoles, membershipIndividuals, linkIndividuals};
+ghost use Rattle.semantics.specs.Books.{nameAbove, roleAbove, linkRoles, pairRoles, membershipIndividuals, linkIndividuals};
 ghost use Rattle.sections.specs.Terms.{termAt, termsOf, termCount};
+ghost use Rattle.claims.specs.Pairs.{pairsOf};
 ghost use Rattle.claims.specs.Claims.{membershipsOf, linksOf};
 ghost use Rattle.counts.specs.Columns.{column};
 use encoding::wide;
@@ -66,32 +67,34 @@ fn count_term_roles(s: &[u8]) -> usize
     found
 }
 
-// One more than the highest byte of column `k` of records of four, or 0.
-fn count_column(s: &[u8], k: usize) -> usize
-    requires { ⌜ k < 4 ⌝ }
-    ensures { λ r. ⌜ r ≡ highest suc (column (now (s .entry)) k) ⌝ }
+// One more than the highest byte of column `k` of records of `w` bytes, or 0.
+fn count_column(s: &[u8], w: usize, k: usize) -> usize
+    requires { ⌜ k < w ⌝ }
+    ensures { λ r. ⌜ r ≡ highest suc (column (now (s .entry)) w k) ⌝ }
 {
-    let count = s.len() / 4;
+    let count = s.len() / w;
     let mut found = 0;
     let mut i = 0;
     while i < count {
-        found = higher(found, wide(s[4 * i + k]) + 1);
+        found = higher(found, wide(s[w * i + k]) + 1);
         i += 1;
     }
     found
 }
 
-// R, the number of roles that terms and link claims count.
-pub fn count_roles(terms: &[u8], links: &[u8]) -> usize
-    ensures { λ r. ⌜ r ≡ max (highest roleAbove (termsOf (now (terms .entry)))) (highest linkRoles (linksOf (now (links .entry)))) ⌝ }
+// R, the number of roles that terms, link claims and pairs count.
+pub fn count_roles(terms: &[u8], links: &[u8], pairs: &[u8]) -> usize
+    ensures { λ r. ⌜ r ≡ max (max (highest roleAbove (termsOf (now (terms .entry)))) (highest linkRoles (linksOf (now (links .entry))))) (highest pairRoles (pairsOf (now (pairs .entry)))) ⌝ }
 {
-    higher(count_term_roles(terms), count_column(links, 0))
+    let named = higher(count_term_roles(terms), count_column(links, 4, 0));
+    let ranked = higher(count_column(pairs, 2, 0), count_column(pairs, 2, 1));
+    higher(named, ranked)
 }
 
 // I, the number of individuals that claims count.
 pub fn count_individuals(memberships: &[u8], links: &[u8]) -> usize
     ensures { λ r. ⌜ r ≡ max (highest membershipIndividuals (membershipsOf (now (memberships .entry)))) (highest linkIndividuals (linksOf (now (links .entry)))) ⌝ }
 {
-    let linked = higher(count_column(links, 1), count_column(links, 2));
-    higher(count_column(memberships, 0), linked)
+    let linked = higher(count_column(links, 4, 1), count_column(links, 4, 2));
+    higher(count_column(memberships, 4, 0), linked)
 }

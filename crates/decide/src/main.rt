@@ -103,7 +103,7 @@ fn print_decision(b: &[u8], s: Sections)
 }
 
 fn main() {
-    let mut bytes = [0u8; 851];
+    let mut bytes = [0u8; 983];
     let n = io::read_full(STDIN_FILENO, &mut bytes);
     let b = &bytes[..n];
     match book::open(b) {

@@ -1,9 +1,9 @@
 -- `book::open` meets its contract. Each return follows from the checks made so far, by the laws of opening.
 -- Assumes nothing.
 use mathlib.Core.Path.{sym, _∙_}
-use native.Mathlib.Omega.{arith}
 use borrow.Author.Needs.{needs}
 use Rattle.chain.proofs.Decisions.{told-yes, told-no}
+use Rattle.layout.proofs.Editions.{long-headed}
 use Rattle.book.proofs.Opening.{opened-answers, head-1, head-2, head-3, head-4, head-5, head-none, sections-ordered}
 use Rattle.book.proofs.open.Statement.{statement}
 use Rattle.book.proofs.open.Tie as tie
@@ -14,44 +14,49 @@ length-right-requires c κs = search needs
 returns : tie.Need-returns
 returns c = opened-answers _ _ (sym (head-1 _ (told-no _ (c .before .length-right .ensures) (c .if1 .taken))))
 
-shared-slice-read-if2 : tie.Need-shared-slice-read-if2
-shared-slice-read-if2 c = omega (arith, (told-yes _ (c .before .before .length-right .ensures) (c .before .if1 .left)))
+edition-right-requires : tie.Need-edition-right-requires
+edition-right-requires c κs = long-headed (c .before .before .before .args .b .now) (told-yes _ (c .before .length-right .ensures) (c .if1 .left) .0)
 
 returns-2 : tie.Need-returns-2
 returns-2 c =
     let one = c .before .before in
-    opened-answers _ _ (sym (head-2 _ (told-yes _ (one .before .length-right .ensures) (one .if1 .left)) (c .if2 .taken)))
+    opened-answers _ _ (sym (head-2 _ (told-yes _ (one .before .length-right .ensures) (one .if1 .left))
+    (told-no _ (c .before .edition-right .ensures) (c .if2 .taken))))
 
 steps-right-requires : tie.Need-steps-right-requires
-steps-right-requires c κs = (told-yes _ (c .before .before .before .length-right .ensures) (c .before .before .if1 .left)) .0
+steps-right-requires c κs =
+    let one = c .before .before in
+    long-headed (one .before .before .before .args .b .now) (told-yes _ (one .before .length-right .ensures) (one .if1 .left) .0)
 
 returns-3 : tie.Need-returns-3
 returns-3 c =
     let two = c .before .before in
     let one = two .before .before in
-    opened-answers _ _ (sym (head-3 _ (told-yes _ (one .before .length-right .ensures) (one .if1 .left)) (two .if2 .left)
+    opened-answers _ _ (sym (head-3 _ (told-yes _ (one .before .length-right .ensures) (one .if1 .left)) (told-yes _ (two .before .edition-right .ensures) (two .if2 .left))
     (told-no _ (c .before .steps-right .ensures) (c .if3 .taken))))
 
 counts-right-requires : tie.Need-counts-right-requires
-counts-right-requires c κs = (told-yes _ (c .before .before .before .before .before .length-right .ensures) (c .before .before .before .before .if1 .left)) .0
+counts-right-requires c κs =
+    let one = c .before .before .before .before in
+    long-headed (one .before .before .before .args .b .now) (told-yes _ (one .before .length-right .ensures) (one .if1 .left) .0)
 
 returns-4 : tie.Need-returns-4
 returns-4 c =
     let three = c .before .before in
     let two = three .before .before in
     let one = two .before .before in
-    opened-answers _ _ (sym (head-4 _ (told-yes _ (one .before .length-right .ensures) (one .if1 .left)) (two .if2 .left)
+    opened-answers _ _ (sym (head-4 _ (told-yes _ (one .before .length-right .ensures) (one .if1 .left)) (told-yes _ (two .before .edition-right .ensures) (two .if2 .left))
     (told-yes _ (three .before .steps-right .ensures) (three .if3 .left)) (told-no _ (c .before .counts-right .ensures) (c .if4 .taken))))
 
 sections-of-requires : tie.Need-sections-of-requires
 sections-of-requires c κs =
     let one = c .before .before .before .before .before .before in
-    told-yes _ (one .before .length-right .ensures) (one .if1 .left) .0
+    long-headed (one .before .before .before .args .b .now) (told-yes _ (one .before .length-right .ensures) (one .if1 .left) .0)
 
 laid-out-requires : tie.Need-laid-out-requires
 laid-out-requires c κs =
     let one = c .before .before .before .before .before .before .before in
-    told-yes _ (one .before .length-right .ensures) (one .if1 .left) .0
+    long-headed (one .before .before .before .args .b .now) (told-yes _ (one .before .length-right .ensures) (one .if1 .left) .0)
 
 returns-5 : tie.Need-returns-5
 returns-5 c =
@@ -59,7 +64,7 @@ returns-5 c =
     let three = four .before .before in
     let two = three .before .before in
     let one = two .before .before in
-    opened-answers _ _ (sym (head-5 _ (told-yes _ (one .before .length-right .ensures) (one .if1 .left)) (two .if2 .left)
+    opened-answers _ _ (sym (head-5 _ (told-yes _ (one .before .length-right .ensures) (one .if1 .left)) (told-yes _ (two .before .edition-right .ensures) (two .if2 .left))
     (told-yes _ (three .before .steps-right .ensures) (three .if3 .left)) (told-yes _ (four .before .counts-right .ensures) (four .if4 .left))
     (rw (← c .before .before .sections-of .ensures) (told-no _ (c .before .laid-out .ensures) (c .if5 .taken)))))
 
@@ -77,7 +82,7 @@ returns-6 c =
     let one = two .before .before in
     let sections-of = five .before .before .sections-of in
     opened-answers _ _ (c .open-bodies .ensures ∙ rw (sections-of .ensures) (sym (head-none _
-    (told-yes _ (one .before .length-right .ensures) (one .if1 .left)) (two .if2 .left) (told-yes _ (three .before .steps-right .ensures) (three .if3 .left))
+    (told-yes _ (one .before .length-right .ensures) (one .if1 .left)) (told-yes _ (two .before .edition-right .ensures) (two .if2 .left)) (told-yes _ (three .before .steps-right .ensures) (three .if3 .left))
     (told-yes _ (four .before .counts-right .ensures) (four .if4 .left))
     (rw (← sections-of .ensures) (told-yes _ (five .before .laid-out .ensures) (five .if5 .left))))))
 
@@ -87,7 +92,7 @@ open-spec =
     (tie.spec
     length-right-requires
     returns
-    shared-slice-read-if2
+    edition-right-requires
     returns-2
     steps-right-requires
     returns-3

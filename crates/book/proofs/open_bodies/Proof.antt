@@ -2,7 +2,7 @@
 -- Assumes nothing.
 use mathlib.Core.Path.{sym}
 use borrow.Author.Needs.{needs}
-use Rattle.book.proofs.Opening.{body-6, body-7, body-8, body-9, body-none}
+use Rattle.book.proofs.Opening.{body-6, body-7, body-8, body-9, body-22, body-none}
 use Rattle.chain.proofs.Decisions.{told-yes, told-no}
 use Rattle.book.proofs.open_bodies.Statement.{statement}
 use Rattle.book.proofs.open_bodies.Tie as tie
@@ -18,8 +18,10 @@ terms-right-requires c κs = search needs
 
 returns : tie.Need-returns
 returns c =
-    let s = c .before .before .before .before .before in
-    sym (body-6 (s .args .b .now) (s .args .s) (rw (← c .before .before .terms-in .ensures) (told-no _ (c .before .terms-right .ensures) (c .if1 .taken))))
+    let one = c in
+    let s = one .before .before .before .before .before in
+    sym (body-6 (s .args .b .now) (s .args .s)
+    (rw (← one .before .before .terms-in .ensures) (told-no _ (one .before .terms-right .ensures) (one .if1 .taken))))
 
 rules-in-requires : tie.Need-rules-in-requires
 rules-in-requires c κs = search needs
@@ -29,10 +31,13 @@ rules-right-requires c κs = search needs
 
 returns-2 : tie.Need-returns-2
 returns-2 c =
-    let s = c .before .before .before .before .before .before .before .before in
-    sym (body-7 (s .args .b .now) (s .args .s) (rw (← c .before .before .before .before .before .terms-in .ensures)
-    (told-yes _ (c .before .before .before .before .terms-right .ensures) (c .before .before .before .if1 .left)))
-    (rw (← c .before .before .rules-in .ensures, ← c .before .before .before .before .before .before .count-terms .ensures) (told-no _ (c .before .rules-right .ensures) (c .if2 .taken))))
+    let two = c in
+    let one = two .before .before .before in
+    let count-terms = one .before .before .before .count-terms in
+    let s = one .before .before .before .before .before in
+    sym (body-7 (s .args .b .now) (s .args .s)
+    (rw (← one .before .before .terms-in .ensures) (told-yes _ (one .before .terms-right .ensures) (one .if1 .left)))
+    (rw (← two .before .before .rules-in .ensures, ← count-terms .ensures) (told-no _ (two .before .rules-right .ensures) (two .if2 .taken))))
 
 memberships-in-requires : tie.Need-memberships-in-requires
 memberships-in-requires c κs = search needs
@@ -42,13 +47,15 @@ memberships-right-requires c κs = search needs
 
 returns-3 : tie.Need-returns-3
 returns-3 c =
-    let s = c .before .before .before .before .before .before .before .before .before .before .before in
-    let count-terms = c .before .before .before .before .before .before .before .before .before .count-terms in
-    sym (body-8 (s .args .b .now) (s .args .s) (rw (← c .before .before .before .before .before .before .before .before .terms-in .ensures)
-    (told-yes _ (c .before .before .before .before .before .before .before .terms-right .ensures) (c .before .before .before .before .before .before .if1 .left)))
-    (rw (← c .before .before .before .before .before .rules-in .ensures, ← count-terms .ensures)
-    (told-yes _ (c .before .before .before .before .rules-right .ensures) (c .before .before .before .if2 .left)))
-    (rw (← c .before .before .memberships-in .ensures, ← count-terms .ensures) (told-no _ (c .before .memberships-right .ensures) (c .if3 .taken))))
+    let three = c in
+    let two = three .before .before .before in
+    let one = two .before .before .before in
+    let count-terms = one .before .before .before .count-terms in
+    let s = one .before .before .before .before .before in
+    sym (body-8 (s .args .b .now) (s .args .s)
+    (rw (← one .before .before .terms-in .ensures) (told-yes _ (one .before .terms-right .ensures) (one .if1 .left)))
+    (rw (← two .before .before .rules-in .ensures, ← count-terms .ensures) (told-yes _ (two .before .rules-right .ensures) (two .if2 .left)))
+    (rw (← three .before .before .memberships-in .ensures, ← count-terms .ensures) (told-no _ (three .before .memberships-right .ensures) (three .if3 .taken))))
 
 links-in-requires : tie.Need-links-in-requires
 links-in-requires c κs = search needs
@@ -58,29 +65,55 @@ links-right-requires c κs = search needs
 
 returns-4 : tie.Need-returns-4
 returns-4 c =
-    let s = c .before .before .before .before .before .before .before .before .before .before .before .before .before .before in
-    let count-terms = c .before .before .before .before .before .before .before .before .before .before .before .before .count-terms in
-    sym (body-9 (s .args .b .now) (s .args .s) (rw (← c .before .before .before .before .before .before .before .before .before .before .before .terms-in .ensures)
-    (told-yes _ (c .before .before .before .before .before .before .before .before .before .before .terms-right .ensures)
-    (c .before .before .before .before .before .before .before .before .before .if1 .left)))
-    (rw (← c .before .before .before .before .before .before .before .before .rules-in .ensures, ← count-terms .ensures)
-    (told-yes _ (c .before .before .before .before .before .before .before .rules-right .ensures) (c .before .before .before .before .before .before .if2 .left)))
-    (rw (← c .before .before .before .before .before .memberships-in .ensures, ← count-terms .ensures)
-    (told-yes _ (c .before .before .before .before .memberships-right .ensures) (c .before .before .before .if3 .left)))
-    (rw (← c .before .before .links-in .ensures) (told-no _ (c .before .links-right .ensures) (c .if4 .taken))))
+    let four = c in
+    let three = four .before .before .before in
+    let two = three .before .before .before in
+    let one = two .before .before .before in
+    let count-terms = one .before .before .before .count-terms in
+    let s = one .before .before .before .before .before in
+    sym (body-9 (s .args .b .now) (s .args .s)
+    (rw (← one .before .before .terms-in .ensures) (told-yes _ (one .before .terms-right .ensures) (one .if1 .left)))
+    (rw (← two .before .before .rules-in .ensures, ← count-terms .ensures) (told-yes _ (two .before .rules-right .ensures) (two .if2 .left)))
+    (rw (← three .before .before .memberships-in .ensures, ← count-terms .ensures) (told-yes _ (three .before .memberships-right .ensures) (three .if3 .left)))
+    (rw (← four .before .before .links-in .ensures) (told-no _ (four .before .links-right .ensures) (four .if4 .taken))))
+
+pairs-in-requires : tie.Need-pairs-in-requires
+pairs-in-requires c κs = search needs
+
+pairs-right-requires : tie.Need-pairs-right-requires
+pairs-right-requires c κs = search needs
 
 returns-5 : tie.Need-returns-5
 returns-5 c =
-    let s = c .before .before .before .before .before .before .before .before .before .before .before .before .before .before in
-    let count-terms = c .before .before .before .before .before .before .before .before .before .before .before .before .count-terms in
-    sym (body-none (s .args .b .now) (s .args .s) (rw (← c .before .before .before .before .before .before .before .before .before .before .before .terms-in .ensures)
-    (told-yes _ (c .before .before .before .before .before .before .before .before .before .before .terms-right .ensures)
-    (c .before .before .before .before .before .before .before .before .before .if1 .left)))
-    (rw (← c .before .before .before .before .before .before .before .before .rules-in .ensures, ← count-terms .ensures)
-    (told-yes _ (c .before .before .before .before .before .before .before .rules-right .ensures) (c .before .before .before .before .before .before .if2 .left)))
-    (rw (← c .before .before .before .before .before .memberships-in .ensures, ← count-terms .ensures)
-    (told-yes _ (c .before .before .before .before .memberships-right .ensures) (c .before .before .before .if3 .left)))
-    (rw (← c .before .before .links-in .ensures) (told-yes _ (c .before .links-right .ensures) (c .if4 .left))))
+    let five = c in
+    let four = five .before .before .before in
+    let three = four .before .before .before in
+    let two = three .before .before .before in
+    let one = two .before .before .before in
+    let count-terms = one .before .before .before .count-terms in
+    let s = one .before .before .before .before .before in
+    sym (body-22 (s .args .b .now) (s .args .s)
+    (rw (← one .before .before .terms-in .ensures) (told-yes _ (one .before .terms-right .ensures) (one .if1 .left)))
+    (rw (← two .before .before .rules-in .ensures, ← count-terms .ensures) (told-yes _ (two .before .rules-right .ensures) (two .if2 .left)))
+    (rw (← three .before .before .memberships-in .ensures, ← count-terms .ensures) (told-yes _ (three .before .memberships-right .ensures) (three .if3 .left)))
+    (rw (← four .before .before .links-in .ensures) (told-yes _ (four .before .links-right .ensures) (four .if4 .left)))
+    (rw (← five .before .before .pairs-in .ensures) (told-no _ (five .before .pairs-right .ensures) (five .if5 .taken))))
+
+returns-6 : tie.Need-returns-6
+returns-6 c =
+    let five = c in
+    let four = five .before .before .before in
+    let three = four .before .before .before in
+    let two = three .before .before .before in
+    let one = two .before .before .before in
+    let count-terms = one .before .before .before .count-terms in
+    let s = one .before .before .before .before .before in
+    sym (body-none (s .args .b .now) (s .args .s)
+    (rw (← one .before .before .terms-in .ensures) (told-yes _ (one .before .terms-right .ensures) (one .if1 .left)))
+    (rw (← two .before .before .rules-in .ensures, ← count-terms .ensures) (told-yes _ (two .before .rules-right .ensures) (two .if2 .left)))
+    (rw (← three .before .before .memberships-in .ensures, ← count-terms .ensures) (told-yes _ (three .before .memberships-right .ensures) (three .if3 .left)))
+    (rw (← four .before .before .links-in .ensures) (told-yes _ (four .before .links-right .ensures) (four .if4 .left)))
+    (rw (← five .before .before .pairs-in .ensures) (told-yes _ (five .before .pairs-right .ensures) (five .if5 .left))))
 
 pub open-bodies-spec : {M : Type 1} → statement M
 open-bodies-spec =
@@ -99,4 +132,7 @@ open-bodies-spec =
     links-in-requires
     links-right-requires
     returns-4
-    returns-5)
+    pairs-in-requires
+    pairs-right-requires
+    returns-5
+    returns-6)

@@ -3,7 +3,7 @@
 use mathlib.Core.Path.{ap₂, _∙_}
 use Prim.Native.Nat.{max}
 use borrow.Author.Needs.{needs}
-use Rattle.counts.proofs.Counts.{column-roles}
+use Rattle.counts.proofs.Counts.{column-roles, columns-paired}
 use Rattle.counts.proofs.count_roles.Statement.{statement}
 use Rattle.counts.proofs.count_roles.Tie as tie
 
@@ -16,9 +16,34 @@ count-column-requires c κs = search needs
 higher-requires : tie.Need-higher-requires
 higher-requires c κs = search needs
 
+count-column-requires-2 : tie.Need-count-column-requires-2
+count-column-requires-2 c κs = search needs
+
+count-column-requires-3 : tie.Need-count-column-requires-3
+count-column-requires-3 c κs = search needs
+
+higher-requires-2 : tie.Need-higher-requires-2
+higher-requires-2 c κs = search needs
+
+higher-requires-3 : tie.Need-higher-requires-3
+higher-requires-3 c κs = search needs
+
 returns : tie.Need-returns
-returns c = c .higher .ensures ∙ ap₂ max (c .before .before .count-term-roles .ensures) (c .before .count-column .ensures ∙ column-roles _)
+returns c =
+    let named = c .before .before .before .before in
+    c .higher3 .ensures ∙ ap₂ max
+    (named .higher .ensures ∙ ap₂ max (named .before .before .count-term-roles .ensures) (named .before .count-column .ensures ∙ column-roles _))
+    (c .before .higher2 .ensures ∙ ap₂ max (c .before .before .before .count-column2 .ensures) (c .before .before .count-column3 .ensures) ∙ columns-paired _)
 
 pub count-roles-spec : {M : Type 1} → statement M
 count-roles-spec =
-    tie.close (tie.spec count-term-roles-requires count-column-requires higher-requires returns)
+    tie.close
+    (tie.spec
+    count-term-roles-requires
+    count-column-requires
+    higher-requires
+    count-column-requires-2
+    count-column-requires-3
+    higher-requires-2
+    higher-requires-3
+    returns)

@@ -28,7 +28,15 @@ word-requires-4 : tie.Need-word-requires-4
 word-requires-4 c κs = search needs
 
 returns-4 : tie.Need-returns-4
-returns-4 c = tells-then _ (omega arith) (tells-then _ (omega arith) (tells-then _ (omega arith) (tells-at-most _ _ _ (c .word4 .ensures .0))))
+returns-4 c = tells-no (λ h. omega arith)
+
+count-pairs-requires : tie.Need-count-pairs-requires
+count-pairs-requires c κs = search needs
+
+returns-5 : tie.Need-returns-5
+returns-5 c =
+    tells-then _ (omega arith) (tells-then _ (omega arith) (tells-then _ (omega arith) (tells-then _ (omega arith)
+    (tells-at-most _ _ _ (c .count-pairs .ensures .0)))))
 
 pub counts-right-spec : {M : Type 1} → statement M
 counts-right-spec =
@@ -41,4 +49,6 @@ counts-right-spec =
     word-requires-3
     returns-3
     word-requires-4
-    returns-4)
+    returns-4
+    count-pairs-requires
+    returns-5)

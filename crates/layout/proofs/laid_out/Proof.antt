@@ -2,7 +2,7 @@
 -- Assumes nothing.
 use mathlib.Core.Path.{sym, _∙_}
 use borrow.Author.Needs.{needs}
-use Rattle.chain.proofs.Decisions.{tells-no, tells-then, tells-eq}
+use Rattle.chain.proofs.Decisions.{tells-no, tells-then, tells-eq, told-yes, told-no}
 use Rattle.layout.proofs.laid_out.Statement.{statement}
 use Rattle.layout.proofs.laid_out.Tie as tie
 
@@ -30,14 +30,23 @@ word-requires-4 c κs = search needs
 returns-4 : tie.Need-returns-4
 returns-4 c = tells-no (λ h. c .if4 .taken (c .before .before .word4 .ensures .0 ∙ h .1 .1 .1 .0))
 
+pairs-placed-requires : tie.Need-pairs-placed-requires
+pairs-placed-requires c κs = search needs
+
 returns-5 : tie.Need-returns-5
-returns-5 c =
-    tells-then _ (sym (c .before .before .before .before .before .before .before .before .before .before .before .before .word .ensures .0)
-    ∙ c .before .before .before .before .before .before .before .before .before .before .if1 .left)
-    (tells-then _ (sym (c .before .before .before .before .before .before .before .before .before .word2 .ensures .0)
-    ∙ c .before .before .before .before .before .before .before .if2 .left)
-    (tells-then _ (sym (c .before .before .before .before .before .before .word3 .ensures .0) ∙ c .before .before .before .before .if3 .left)
-    (tells-then _ (sym (c .before .before .before .word4 .ensures .0) ∙ c .before .if4 .left) (tells-eq _ _))))
+returns-5 c = tells-no (λ h. told-no _ (c .before .pairs-placed .ensures) (c .if5 .taken) (h .1 .1 .1 .1 .0))
+
+returns-6 : tie.Need-returns-6
+returns-6 c =
+    let four = c .before .before .before in
+    let three = four .before .before .before in
+    let two = three .before .before .before in
+    let one = two .before .before .before in
+    tells-then _ (sym (one .before .before .word .ensures .0) ∙ one .if1 .left)
+    (tells-then _ (sym (two .before .before .word2 .ensures .0) ∙ two .if2 .left)
+    (tells-then _ (sym (three .before .before .word3 .ensures .0) ∙ three .if3 .left)
+    (tells-then _ (sym (four .before .before .word4 .ensures .0) ∙ four .if4 .left)
+    (tells-then _ (told-yes _ (c .before .before .pairs-placed .ensures) (c .before .if5 .left)) (tells-eq _ _)))))
 
 pub laid-out-spec : {M : Type 1} → statement M
 laid-out-spec =
@@ -51,4 +60,6 @@ laid-out-spec =
     returns-3
     word-requires-4
     returns-4
-    returns-5)
+    pairs-placed-requires
+    returns-5
+    returns-6)

@@ -1,9 +1,14 @@
 -- `layout::sections_of` meets its contract.
 -- Assumes nothing.
+use native.Mathlib.Omega.{arith}
 use borrow.Author.Needs.{needs}
-use Rattle.layout.specs.Layout.{sectionsOf}
+use Rattle.layout.specs.Layout.{edition, sectionsOf}
+use Rattle.layout.proofs.Editions.{head-bounds}
 use Rattle.layout.proofs.sections_of.Statement.{statement}
 use Rattle.layout.proofs.sections_of.Tie as tie
+
+head-of-requires : tie.Need-head-of-requires
+head-of-requires c κs = search needs
 
 word-requires : tie.Need-word-requires
 word-requires c κs = search needs
@@ -12,7 +17,7 @@ mul-rules : tie.Need-mul-rules
 mul-rules c = search needs
 
 add-rules : tie.Need-add-rules
-add-rules c = search needs
+add-rules c = omega (arith, head-bounds (edition (c .before .before .before .args .b .now)) .1)
 
 word-requires-2 : tie.Need-word-requires-2
 word-requires-2 c κs = search needs
@@ -21,7 +26,7 @@ mul-memberships : tie.Need-mul-memberships
 mul-memberships c = search needs
 
 add-memberships : tie.Need-add-memberships
-add-memberships c = search needs
+add-memberships c = omega (arith, head-bounds (edition (c .before .before .before .before .args .b .now)) .1)
 
 word-requires-3 : tie.Need-word-requires-3
 word-requires-3 c κs = search needs
@@ -30,28 +35,39 @@ mul-links : tie.Need-mul-links
 mul-links c = search needs
 
 add-links : tie.Need-add-links
-add-links c = search needs
+add-links c = omega (arith, head-bounds (edition (c .before .before .before .before .before .args .b .now)) .1)
 
 word-requires-4 : tie.Need-word-requires-4
 word-requires-4 c κs = search needs
+
+mul-pairs : tie.Need-mul-pairs
+mul-pairs c = search needs
+
+add-pairs : tie.Need-add-pairs
+add-pairs c = omega (arith, head-bounds (edition (c .before .before .before .before .before .before .args .b .now)) .1)
+
+count-pairs-requires : tie.Need-count-pairs-requires
+count-pairs-requires c κs = search needs
 
 mul-end : tie.Need-mul-end
 mul-end c = search needs
 
 add-end : tie.Need-add-end
-add-end c = search needs
+add-end c = omega (arith, head-bounds (edition (c .before .before .before .before .before .before .before .args .b .now)) .1)
 
-shared-slice-read-t9 : tie.Need-shared-slice-read-t9
-shared-slice-read-t9 c = search needs
+shared-slice-read-t11 : tie.Need-shared-slice-read-t11
+shared-slice-read-t11 c = search needs
 
 returns : tie.Need-returns
 unfolding sectionsOf
-returns c = simp (c .before .before .before .before .word .ensures .0, c .before .before .before .word2 .ensures .0, c .before .before .word3 .ensures .0, c .before .word4 .ensures .0)
+returns c =
+    simp (c .before .before .before .before .before .before .head-of .ensures, c .before .before .before .before .before .word .ensures .0, c .before .before .before .before .word2 .ensures .0, c .before .before .before .word3 .ensures .0, c .before .before .word4 .ensures .0, c .before .count-pairs .ensures .0)
 
 pub sections-of-spec : {M : Type 1} → statement M
 sections-of-spec =
     tie.close
     (tie.spec
+    head-of-requires
     word-requires
     mul-rules
     add-rules
@@ -62,7 +78,10 @@ sections-of-spec =
     mul-links
     add-links
     word-requires-4
+    mul-pairs
+    add-pairs
+    count-pairs-requires
     mul-end
     add-end
-    shared-slice-read-t9
+    shared-slice-read-t11
     returns)
