@@ -16,7 +16,7 @@ use Rattle.semantics.specs.Books.{nameCount, roleCount, individuals}
 use Rattle.sections.specs.Terms.{termsOf}
 use Rattle.gradings.specs.Gradings.{grading}
 use Rattle.gradings.specs.declared.Logic.{Logic}
-use Rattle.layout.specs.Layout.{termBytes, ruleBytes, membershipBytes, linkBytes, termsIn}
+use Rattle.layout.specs.Layout.{termBytes, ruleBytes, membershipBytes, linkBytes, pairBytes, termsIn}
 use Rattle.book.specs.Reading.{bookAt, bookOf, countsOf}
 use Rattle.book.specs.Opening.{bookQuestions, Accepts, Right, openedOf}
 use Rattle.layout.specs.declared.Sections.{Sections}
@@ -130,23 +130,24 @@ module _ (b t : List ℕ) (s : Sections) (ok : Right b s) (p : Shape) (fits : Sh
     unfolding Filled
     fits-filled v h = rw (← is, ← are, ← sheet-is t p _ _ _ _ fits) (h (individualBytes t p))
 
-  -- by the sections of rules and claims, and by columns that hold the grades
-  module _ (rs ms qs v : List ℕ) (rules : rs ≡ ruleBytes b s) (memberships : ms ≡ membershipBytes b s) (links : qs ≡ linkBytes b s) where
-    pub fits-covered : 4096 ≤ length v → Covered rs ms qs v (p .elements) (sheetLinks t p) (individualBytes t p)
+  -- by the sections of rules, pairs and claims, and by columns that hold the grades
+  module _ (rs ps ms qs v : List ℕ) (rules : rs ≡ ruleBytes b s) (pairs : ps ≡ pairBytes b s) (memberships : ms ≡ membershipBytes b s)
+      (links : qs ≡ linkBytes b s) where
+    pub fits-covered : 4096 ≤ length v → Covered rs ps ms qs v (p .elements) (sheetLinks t p) (individualBytes t p)
     fits-covered h =
         let k = right-counts b s ok in
-        rw (rules, memberships, links)
-        (covered _ _ _ v _ _ _ (s .steps) (termsIn s) (p .roles) (fits .head-right .1 .1 .1 .1 .0) (fits .entries-right .1 .1) (ok .rules-right) (ok .memberships-right)
+        rw (rules, pairs, memberships, links)
+        (covered _ _ _ _ v _ _ _ (s .steps) (termsIn s) (p .roles) (fits .head-right .1 .1 .1 .1 .0) (fits .entries-right .1 .1) (ok .rules-right) (ok .memberships-right)
         (omega (arith, right-few b s ok))
         (omega (arith, k .3, fits .head-right .1 .1 .1 .1 .1 .1 .1, length-individuals t p _ _ _ _ fits))
         (omega (arith, k .2, fits .head-right .1 .1 .1 .1 .1 .1 .0))
         (omega (arith, length-links t p _ _ _ _ fits)))
 
-    pub fits-verdict : Filled b t v → verdictIn rs ms qs v (p .elements) (sheetLinks t p) (individualBytes t p) ≡ verdictOf (bookOf b) (sheetOf t)
+    pub fits-verdict : Filled b t v → verdictIn rs ps ms qs v (p .elements) (sheetLinks t p) (individualBytes t p) ≡ verdictOf (bookOf b) (sheetOf t)
     unfolding Filled
     fits-verdict holds =
-        rw (rules, memberships, links, ← right-book b s ok, ← sheet-is t p _ _ _ _ fits)
-        (verdict-in (bookAt b s .grading) _ _ _ _ (p .names) (nameBytes t p) _ _ v (right-valid b s ok) (fits .head-right .1 .1 .1 .0) (fits .entries-right .1 .1)
+        rw (rules, pairs, memberships, links, ← right-book b s ok, ← sheet-is t p _ _ _ _ fits)
+        (verdict-in (bookAt b s .grading) _ _ _ _ _ (p .names) (nameBytes t p) _ _ v (right-valid b s ok) (fits .head-right .1 .1 .1 .0) (fits .entries-right .1 .1)
         (rw (← right-book b s ok, ← sheet-is t p _ _ _ _ fits) at holds))
 
 -- ---- what checking the sheet answers, by the counts that code made

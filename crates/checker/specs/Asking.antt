@@ -1,4 +1,4 @@
--- The questions "grade of a term in a candidate" and "link of two candidates": after the checks 1 to 10, 20 and then 21.
+-- The questions "grade of a term in a candidate" and "link of two candidates": after the checks 1 to 9, 22 and 10, 20 and then 21.
 -- Assumes nothing.
 use mathlib.Core.Option.{Option, none, some}
 use mathlib.Core.List.{List, [], _∷_, _++_}

@@ -1,4 +1,4 @@
--- What working out a sheet on a book answers, and what it leaves in the grid: after the checks 1 to 9, 13 to 15 and then 16.
+-- What working out a sheet on a book answers, and what it leaves in the grid: after the checks 1 to 9 and 22, 13 to 15 and then 16.
 -- Assumes nothing.
 use mathlib.Core.Option.{Option, none, some}
 use mathlib.Core.List.{List, [], _∷_, _++_}

@@ -111,7 +111,7 @@ pub fn link(b: &[u8], role: u8, c: usize, d: usize) -> Answer
 
 // ---- working out a sheet
 
-// The number of the first check that says no, or the verdict on the book's rules and claims.
+// The number of the first check that says no, or the verdict on the book's rules, pairs and claims.
 pub enum Worked {
     Refused(u8),
     Says(Verdict),
@@ -151,6 +151,7 @@ fn verdict_by(b: &[u8], s: Sections, sheet: &[u8], p: Shape, values: &[u8]) -> V
     let end = sheets::end_at(p);
     verdicts::verdict(
         layout::rules_in(b, s),
+        layout::pairs_in(b, s),
         layout::memberships_in(b, s),
         layout::links_in(b, s),
         values,

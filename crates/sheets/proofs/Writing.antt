@@ -202,7 +202,7 @@ module _ (N A R I : ℕ) (M : Interpretation) where
 
 -- ---- what is written of a model
 
--- the sheet written for an interpretation that meets a book's rules and claims meets them
+-- the sheet written for an interpretation that meets a book's rules, pairs and claims meets them
 pub sheet-meets : (B : Book) (M : Interpretation) → Valid B → RuleModel B M → MeetsClaims B M
     → verdictOf B (sheetOf (sheetBytes (B .grading .steps) (nameCount B) (roleCount B) (individuals B) M)) ≡ Meets
 sheet-meets B M v r c = agree-meets B M _ v (sheet-reads (B .grading .steps) (nameCount B) (roleCount B) (individuals B) M) r c

@@ -1,20 +1,22 @@
--- Laws for the functions: one rule or claim judged by numbers that are read from the cells; the first that is broken of a section's records.
+-- Laws for the functions: one rule, pair or claim judged by numbers that are read from the cells; the first that is broken of a section's records.
 -- Assumes nothing.
 use mathlib.Core.Path.{_≡_, sym, ap, ap₂, subst, _∙_}
 use mathlib.Core.List.{List}
 use Prim.Native.Nat.{ℕ, _≤_, _<_}
 use native.Mathlib.Decide.{decLe}
 use native.Mathlib.Omega.{arith}
+use Rattle.semantics.specs.Roles.{RolePair}
 use Rattle.semantics.specs.Interpretations.{Interpretation}
 use Rattle.semantics.specs.Books.{Rule, Claimed, claimed?, MembershipClaim, LinkClaim}
 use Rattle.claims.specs.Rules.{ruleCount, ruleAt, rulesOf}
+use Rattle.claims.specs.Pairs.{pairCount, pairAt, pairsOf}
 use Rattle.claims.specs.Claims.{claimCount, membershipAt, membershipsOf, linkAt, linksOf}
-use Rattle.working.specs.Working.{judge, firstBroken, ruleVerdictAt, ruleVerdict, membershipVerdict, linkVerdict, rulesVerdict, membershipsVerdict, linksVerdict}
+use Rattle.working.specs.Working.{judge, firstBroken, ruleVerdictAt, ruleVerdict, pairVerdictAt, pairVerdict, membershipVerdict, linkVerdict, rulesVerdict, pairsVerdict, membershipsVerdict, linksVerdict}
 use Rattle.working.specs.declared.Verdict.{Verdict}
-use Rattle.working.specs.declared.Verdict.the-variants.{Meets, BreaksRule, BreaksMembership, BreaksLink}
+use Rattle.working.specs.declared.Verdict.the-variants.{Meets, BreaksRule, BreaksPair, BreaksMembership, BreaksLink}
 use Rattle.working.proofs.Working.{judge-yes, judge-no, first-table}
 
--- ---- one rule or claim
+-- ---- one rule, pair or claim
 
 -- a fact about y, found by the number x that equals it
 module _ {P : ℕ → Type 0} (p : (x : ℕ) → Dec (P x)) (v : Verdict) {x y : ℕ} (e : x ≡ y) where
@@ -45,6 +47,16 @@ module _ (grade : (term element : ℕ) → ℕ) (k : ℕ) where
     unfolding membershipVerdict
     membership-unmet = judged-unmet (claimed? (q .sense) (q .grade)) _ (g ∙ ap (grade (q .term)) i)
 
+-- x and y are the links of the two roles from e to f
+module _ (link : (role source target : ℕ) → ℕ) (k : ℕ) (q : RolePair) (e f x y : ℕ) (l : x ≡ link (q .lower) e f) (r : y ≡ link (q .upper) e f) where
+  pub pair-met : x ≤ y → pairVerdictAt link k q e f ≡ Meets
+  unfolding pairVerdictAt
+  pair-met h = judge-yes _ _ (omega arith)
+
+  pub pair-unmet : y < x → BreaksPair k e f ≡ pairVerdictAt link k q e f
+  unfolding pairVerdictAt
+  pair-unmet h = sym (judge-no _ _ (λ m. omega arith))
+
 -- e and f are the individuals' elements, and x the link between them
 module _ (I : Interpretation) (k : ℕ) (q : LinkClaim) (e f x : ℕ) (i : e ≡ I .element (q .source)) (j : f ≡ I .element (q .target))
     (g : x ≡ I .links (q .role) e f) where
@@ -67,6 +79,11 @@ module _ (grade : (term element : ℕ) → ℕ) (s : List ℕ) where
       → membershipsVerdict grade element (membershipsOf s) ≡ firstBroken (λ k. membershipVerdict grade element k (membershipAt s k)) (claimCount s)
   unfolding membershipsVerdict membershipsOf
   memberships-first element = first-table (membershipVerdict grade element) (membershipAt s) _ (claimCount s)
+
+pub pairs-first : (link : (role source target : ℕ) → ℕ) (n : ℕ) (s : List ℕ)
+    → pairsVerdict link n (pairsOf s) ≡ firstBroken (λ k. pairVerdict link n k (pairAt s k)) (pairCount s)
+unfolding pairsVerdict pairsOf
+pairs-first link n s = first-table (pairVerdict link n) (pairAt s) _ (pairCount s)
 
 pub links-first : (I : Interpretation) (s : List ℕ) → linksVerdict I (linksOf s) ≡ firstBroken (λ k. linkVerdict I k (linkAt s k)) (claimCount s)
 unfolding linksVerdict linksOf

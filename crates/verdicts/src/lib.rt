@@ -1,14 +1,15 @@
-// Whether a sheet meets a book's rules and claims, and if not the first that is broken.
+// Whether a sheet meets a book's rules, pairs and claims, and if not the first that is broken.
 ghost use mathlib.Core.Path.{_≡_};
 ghost use Prim.Native.Nat.{_+_, _*_, _<_, _≤_};
 ghost use lib.ListN.{length};
 ghost use Rattle.chain.specs.Decisions.{Tells};
 ghost use Rattle.claims.specs.Rules.{ruleCount, ruleAt, rulesOf, RuleRight, RulesRight};
+ghost use Rattle.claims.specs.Pairs.{pairCount, pairAt, pairsOf};
 ghost use Rattle.claims.specs.Claims.{claimCount, membershipAt, membershipsOf, linkAt, linksOf};
-ghost use Rattle.working.specs.Working.{orElse, ruleVerdict, membershipVerdict, linkVerdict, rulesVerdict, membershipsVerdict, linksVerdict};
+ghost use Rattle.working.specs.Working.{orElse, ruleVerdict, pairVerdictFrom, pairVerdict, membershipVerdict, linkVerdict, rulesVerdict, pairsVerdict, membershipsVerdict, linksVerdict};
 ghost use Rattle.working.specs.declared.Verdict.the-variants.{Meets};
 ghost use Rattle.grids.specs.Columns.{cellAt, columnCount};
-ghost use Rattle.verdicts.specs.Cells.{sheet, elementIn, linkIn, verdictIn, Seated, MembershipCovered, LinkCovered, MembershipsCovered, LinksCovered, Covered};
+ghost use Rattle.verdicts.specs.Cells.{sheet, elementIn, linkIn, verdictIn, Seated, PairCovered, MembershipCovered, LinkCovered, PairsCovered, MembershipsCovered, LinksCovered, Covered};
 use claims::claimed;
 use encoding::wide;
 use grids::cell;
@@ -66,6 +67,57 @@ fn rules_verdict(rules: &[u8], values: &[u8], n: usize) -> Verdict
     let mut i = 0;
     while i < count {
         let v = rule_verdict(rules, i, values, n);
+        if !met(v) {
+            return v;
+        }
+        i += 1;
+    }
+    Verdict::Meets
+}
+
+// ---- pairs
+
+// Is pair `i` met at first element `e`? If not, the lowest second element at which it is broken.
+fn pair_verdict_from(pairs: &[u8], i: usize, n: usize, links: &[u8], e: usize) -> Verdict
+    requires { ⌜ (i < pairCount (now pairs)) × PairCovered n (now links) (pairAt (now pairs) i) × (n ≤ 64) × (e < n) ⌝ }
+    ensures { λ r. ⌜ r ≡ pairVerdictFrom (linkIn n (now (links .entry))) n i (pairAt (now (pairs .entry)) i) e ⌝ }
+{
+    let lower = pairs[2 * i];
+    let upper = pairs[2 * i + 1];
+    let mut f = 0;
+    while f < n {
+        if link(links, n, upper, e, f) < link(links, n, lower, e, f) {
+            return Verdict::BreaksPair(i, e, f);
+        }
+        f += 1;
+    }
+    Verdict::Meets
+}
+
+// Is pair `i` met? If not, the lowest first element at which it is broken, with the lowest second.
+fn pair_verdict(pairs: &[u8], i: usize, n: usize, links: &[u8]) -> Verdict
+    requires { ⌜ (i < pairCount (now pairs)) × PairCovered n (now links) (pairAt (now pairs) i) × (n ≤ 64) ⌝ }
+    ensures { λ r. ⌜ r ≡ pairVerdict (linkIn n (now (links .entry))) n i (pairAt (now (pairs .entry)) i) ⌝ }
+{
+    let mut e = 0;
+    while e < n {
+        let v = pair_verdict_from(pairs, i, n, links, e);
+        if !met(v) {
+            return v;
+        }
+        e += 1;
+    }
+    Verdict::Meets
+}
+
+fn pairs_verdict(pairs: &[u8], n: usize, links: &[u8]) -> Verdict
+    requires { ⌜ PairsCovered n (now links) (now pairs) × (n ≤ 64) ⌝ }
+    ensures { λ r. ⌜ r ≡ pairsVerdict (linkIn n (now (links .entry))) n (pairsOf (now (pairs .entry))) ⌝ }
+{
+    let count = pairs.len() / 2;
+    let mut i = 0;
+    while i < count {
+        let v = pair_verdict(pairs, i, n, links);
         if !met(v) {
             return v;
         }
@@ -152,9 +204,10 @@ fn or_else(first: Verdict, second: Verdict) -> Verdict
     if met(first) { second } else { first }
 }
 
-// The first rule broken, else the first membership claim, else the first link claim.
+// The first rule broken, else the first pair, else the first membership claim, else the first link claim.
 pub fn verdict(
     rules: &[u8],
+    pairs: &[u8],
     memberships: &[u8],
     claims: &[u8],
     values: &[u8],
@@ -162,11 +215,13 @@ pub fn verdict(
     links: &[u8],
     individuals: &[u8],
 ) -> Verdict
-    requires { ⌜ Covered (now rules) (now memberships) (now claims) (now values) n (now links) (now individuals) ⌝ }
-    ensures { λ r. ⌜ r ≡ verdictIn (now (rules .entry)) (now (memberships .entry)) (now (claims .entry)) (now (values .entry)) n (now (links .entry)) (now (individuals .entry)) ⌝ }
+    requires { ⌜ Covered (now rules) (now pairs) (now memberships) (now claims) (now values) n (now links) (now individuals) ⌝ }
+    ensures { λ r. ⌜ r ≡ verdictIn (now (rules .entry)) (now (pairs .entry)) (now (memberships .entry)) (now (claims .entry)) (now (values .entry)) n (now (links .entry)) (now (individuals .entry)) ⌝ }
 {
     let on_rules = rules_verdict(rules, values, n);
+    let on_pairs = pairs_verdict(pairs, n, links);
     let on_memberships = memberships_verdict(memberships, values, n, individuals);
     let on_links = links_verdict(claims, n, links, individuals);
-    or_else(on_rules, or_else(on_memberships, on_links))
+    let on_claims = or_else(on_memberships, on_links);
+    or_else(on_rules, or_else(on_pairs, on_claims))
 }

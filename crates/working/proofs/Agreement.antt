@@ -1,4 +1,5 @@
--- Interpretations that agree on a book's names, roles and individuals: they give its terms the same grades and meet the same rules and claims.
+-- Interpretations that agree on a book's names, roles and individuals: they give its terms the same grades and meet the same rules, pairs and
+-- claims.
 -- Assumes nothing.
 use mathlib.Core.Path.{_≡_, refl, sym, ap, _∙_}
 use Prim.Native.Nat.{ℕ, _≤_, _<_}
@@ -9,8 +10,9 @@ use Rattle.chain.specs.Lists.{highest}
 use Rattle.chain.proofs.Connectives.{over-same}
 use Rattle.chain.proofs.Lists.{each-map₂, each-map₃, each-at, each-highest}
 use Rattle.semantics.specs.Terms.{Term, name, not, and, or, some, all, top, bottom, term, local}
+use Rattle.semantics.specs.Roles.{RolePair}
 use Rattle.semantics.specs.Interpretations.{Grading, Interpretation, WellFormed, OnChain, Agree, atElements, gradeAt}
-use Rattle.semantics.specs.Books.{Rule, MembershipClaim, LinkClaim, Book, Valid, RuleInRange, TermInRange, nameAbove, roleAbove, linkRoles, membershipIndividuals, linkIndividuals, nameCount, roleCount, individuals, MeetsRule, MeetsMembership, MeetsLink, RuleModel, MeetsClaims}
+use Rattle.semantics.specs.Books.{Rule, MembershipClaim, LinkClaim, Book, Valid, RuleInRange, TermInRange, nameAbove, roleAbove, linkRoles, pairRoles, membershipIndividuals, linkIndividuals, nameCount, roleCount, individuals, MeetsRule, MeetsPair, MeetsMembership, MeetsLink, RuleModel, MeetsClaims}
 use Rattle.semantics.proofs.Interpretations.{gradeAt-local, gradeAt-unique}
 use Rattle.working.specs.Working.{verdictOf}
 use Rattle.working.specs.declared.Verdict.the-variants.{Meets}
@@ -50,7 +52,7 @@ module _ (G : Grading) (A R I : ℕ) (M K : Interpretation) (same : Agree A R I 
       at : (above : Term → ℕ) (n : ℕ) → highest above (G .terms) ≤ n → (j : ℕ) → j < length (G .terms) → above (term (G .terms) j) ≤ n
       at above n b j m = each-at (λ t. above t ≤ n) (G .terms) bottom .0 (each-highest above (G .terms) n b) j m
 
--- ---- rules and claims
+-- ---- rules, pairs and claims
 
 module _ (B : Book) (M K : Interpretation) (v : Valid B) (same : Agree (nameCount B) (roleCount B) (individuals B) M K) where
   abbrev G : Grading
@@ -66,6 +68,12 @@ module _ (B : Book) (M K : Interpretation) (v : Valid B) (same : Agree (nameCoun
       let m : e < M .size = omega (arith, same .size-same) in
       rw (← grade-agree (q .left) (r .0) e m, ← grade-agree (q .right) (r .1) e m) (h e m)
 
+  pair-agree : (q : RolePair) → pairRoles q ≤ roleCount B → MeetsPair M q → MeetsPair K q
+  pair-agree q r h e f l m =
+      let e-in : e < M .size = omega (arith, same .size-same) in
+      let f-in : f < M .size = omega (arith, same .size-same) in
+      rw (same .links-same (q .lower) e f (omega arith) e-in f-in, same .links-same (q .upper) e f (omega arith) e-in f-in) (h e f e-in f-in)
+
   module _ (on : OnChain (G .steps) M) where
     membership-agree : (q : MembershipClaim) → TermInRange G q → membershipIndividuals q ≤ individuals B → MeetsMembership G M q → MeetsMembership G K q
     membership-agree q t j h =
@@ -79,12 +87,13 @@ module _ (B : Book) (M K : Interpretation) (v : Valid B) (same : Agree (nameCoun
           same .links-same (q .role) (M .element (q .source)) (M .element (q .target)) r (on .element-lt (q .source)) (on .element-lt (q .target)),
         ) h
 
-  -- if the one meets the rules and claims, so does the other
+  -- if the one meets the rules, pairs and claims, so does the other
   pub agree-meets : RuleModel B M → MeetsClaims B M → verdictOf B K ≡ Meets
   unfolding roleCount individuals
   agree-meets r c =
       says-verdict B K Meets (
         each-map₂ {R = MeetsRule G K} rule-agree (B .rules) (v .rules-in) (r .rules-met),
+        each-map₂ {R = MeetsPair K} pair-agree (B .pairs) (each-highest pairRoles (B .pairs) (roleCount B) (omega arith)) (r .pairs-met),
         each-map₃ {S = MeetsMembership G K} (membership-agree (r .on-chain)) (B .memberships) (v .terms-in)
             (each-highest membershipIndividuals (B .memberships) (individuals B) (omega arith)) (c .memberships-met),
         each-map₃ {S = MeetsLink K} (link-agree (r .on-chain)) (B .links)

@@ -1,4 +1,5 @@
--- Laws of verdicts: the first that is broken, and what the verdict on a book and an interpretation says of its rules and claims.
+-- Laws of verdicts: the first that is broken, and what the verdict on a book and an interpretation says of its rules, pairs
+-- and claims.
 -- Assumes nothing.
 use mathlib.Core.Path.{_≡_, refl, sym, ap, ap₂, subst, _∙_}
 use mathlib.Core.Logic.{_⊎_, inl, inr, ⊎-elim, _↔_, Iff·rfl, Iff·symm, Iff·trans, Dec·not-not}
@@ -12,17 +13,21 @@ use borrow.Author.Count.{below-none, below-more}
 use Rattle.chain.specs.Lists.{Each, table}
 use Rattle.chain.proofs.Search.{below-cases}
 use Rattle.chain.proofs.Lists.{each-at, length-table, getD-table}
+use Rattle.semantics.specs.Roles.{RolePair}
 use Rattle.semantics.specs.Interpretations.{Grading, Interpretation, gradeAt}
-use Rattle.semantics.specs.Books.{Rule, MembershipClaim, LinkClaim, Book, claimed?, MeetsRule, MeetsMembership, MeetsLink}
-use Rattle.working.specs.Working.{Broken, judge, orElse, firstBroken, nthRule, nthMembership, ruleVerdictAt, ruleVerdict, membershipVerdict, linkVerdict, rulesVerdict, membershipsVerdict, linksVerdict, verdictBy, verdictOf}
-use Rattle.working.specs.Working.{FirstFailing, MeetsRuleAt, RulesMet, MembershipsMet, LinksMet, Says}
+use Rattle.semantics.specs.Books.{Rule, MembershipClaim, LinkClaim, Book, claimed?, MeetsRule, MeetsPair, MeetsMembership, MeetsLink}
+use Rattle.working.specs.Working.{Broken, judge, orElse, firstBroken, nthRule, nthPair, nthMembership, ruleVerdictAt, ruleVerdict, pairVerdictAt, pairVerdictFrom, pairVerdict, membershipVerdict, linkVerdict, rulesVerdict, pairsVerdict, membershipsVerdict, linksVerdict, verdictBy, verdictOf}
+use Rattle.working.specs.Working.{FirstFailing, MeetsRuleAt, MeetsPairAt, MeetsPairFrom, RulesMet, PairsMet, MembershipsMet, LinksMet, Says}
 use Rattle.working.specs.declared.Verdict.{Verdict}
-use Rattle.working.specs.declared.Verdict.the-variants.{Meets, BreaksRule, BreaksMembership, BreaksLink}
+use Rattle.working.specs.declared.Verdict.the-variants.{Meets, BreaksRule, BreaksPair, BreaksMembership, BreaksLink}
 
 -- ---- met or broken
 
 pub rule-broken : (k e : ℕ) → Broken (BreaksRule k e)
 rule-broken k e h = let z : _≡_ {A = ℕ} 0 1 = cc in omega arith
+
+pub pair-broken : (k e f : ℕ) → Broken (BreaksPair k e f)
+pair-broken k e f h = let z : _≡_ {A = ℕ} 0 1 = cc in omega arith
 
 pub membership-broken : (k : ℕ) → Broken (BreaksMembership k)
 membership-broken k h = let z : _≡_ {A = ℕ} 0 1 = cc in omega arith
@@ -33,6 +38,7 @@ link-broken k h = let z : _≡_ {A = ℕ} 0 1 = cc in omega arith
 pub met-or-broken : (v : Verdict) → (v ≡ Meets) ⊎ Broken v
 met-or-broken Meets = inl refl
 met-or-broken (BreaksRule k e) = inr (rule-broken k e)
+met-or-broken (BreaksPair k e f) = inr (pair-broken k e f)
 met-or-broken (BreaksMembership k) = inr (membership-broken k)
 met-or-broken (BreaksLink k) = inr (link-broken k)
 
@@ -64,6 +70,7 @@ module _ (v w : Verdict) where
       go : (v : Verdict) → Broken v → orElse v w ≡ v
       go Meets b = absurd (b refl)
       go (BreaksRule k e) b = refl
+      go (BreaksPair k e f) b = refl
       go (BreaksMembership k) b = refl
       go (BreaksLink k) b = refl
 
@@ -155,12 +162,12 @@ module _ (g h : (i e : ℕ) → ℕ) (I : Interpretation) (t : ℕ) (same : (i :
   membership-same k q r =
       ap (λ (x : ℕ). judge (claimed? (q .sense) (q .grade) x) (BreaksMembership k)) (same (q .term) r (I .element (q .individual)) (seated (q .individual)))
 
-  pub verdict-same : (rs : List Rule) (ms : List MembershipClaim) (ls : List LinkClaim) → Each (λ q. (q .left < t) × (q .right < t)) rs
-      → Each (λ q. q .term < t) ms → verdictBy g I rs ms ls ≡ verdictBy h I rs ms ls
+  pub verdict-same : (rs : List Rule) (ps : List RolePair) (ms : List MembershipClaim) (ls : List LinkClaim)
+      → Each (λ q. (q .left < t) × (q .right < t)) rs → Each (λ q. q .term < t) ms → verdictBy g I rs ps ms ls ≡ verdictBy h I rs ps ms ls
   unfolding verdictBy rulesVerdict membershipsVerdict
-  verdict-same rs ms ls r m =
+  verdict-same rs ps ms ls r m =
       ap₂ orElse (first-same _ _ (length rs) (λ k l. rule-same k (nthRule rs k) (each-at _ rs _ .0 r k l)))
-      (ap (λ (v : Verdict). orElse v (linksVerdict I ls))
+      (ap (λ (v : Verdict). orElse (pairsVerdict (I .links) (I .size) ps) (orElse v (linksVerdict I ls)))
       (first-same _ _ (length ms) (λ k l. membership-same k (nthMembership ms k) (each-at _ ms _ .0 m k l))))
 
 -- ---- the verdict on a book
@@ -172,7 +179,7 @@ module _ (B : Book) (I : Interpretation) where
   abbrev grade : (i e : ℕ) → ℕ
   grade = gradeAt G I
 
-  -- ---- one rule or claim: when it is met, and what is said where it is not
+  -- ---- one rule, pair or claim: when it is met, and what is said where it is not
 
   rule-meets-at : (k : ℕ) (q : Rule) (e : ℕ) → (ruleVerdictAt grade k q e ≡ Meets) ↔ MeetsRuleAt G I q e
   unfolding ruleVerdictAt
@@ -185,6 +192,24 @@ module _ (B : Book) (I : Interpretation) where
   rule-breaks : (k : ℕ) (q : Rule) (e : ℕ) → FirstFailing (MeetsRuleAt G I q) (I .size) e → ruleVerdict grade (I .size) k q ≡ BreaksRule k e
   unfolding ruleVerdict ruleVerdictAt
   rule-breaks k q e w = first-at _ (rule-meets-at k q) (I .size) e w ∙ judge-no _ _ (w .fails)
+
+  pair-meets-at : (k : ℕ) (q : RolePair) (e f : ℕ) → (pairVerdictAt (I .links) k q e f ≡ Meets) ↔ MeetsPairAt I q e f
+  unfolding pairVerdictAt
+  pair-meets-at k q e f = judge-meets _ _ (pair-broken k e f)
+
+  pair-meets-from : (k : ℕ) (q : RolePair) (e : ℕ) → (pairVerdictFrom (I .links) (I .size) k q e ≡ Meets) ↔ MeetsPairFrom I q e
+  unfolding pairVerdictFrom
+  pair-meets-from k q e = first-meets _ (pair-meets-at k q e) (I .size)
+
+  pair-meets : (k : ℕ) (q : RolePair) → (pairVerdict (I .links) (I .size) k q ≡ Meets) ↔ MeetsPair I q
+  unfolding pairVerdict
+  pair-meets k q = Iff·trans (first-meets _ (pair-meets-from k q) (I .size)) (λ h e f l m. h e l f m, λ h e l f m. h e f l m)
+
+  pair-breaks : (k : ℕ) (q : RolePair) (e f : ℕ) → FirstFailing (MeetsPairFrom I q) (I .size) e → FirstFailing (MeetsPairAt I q e) (I .size) f
+      → pairVerdict (I .links) (I .size) k q ≡ BreaksPair k e f
+  unfolding pairVerdict pairVerdictFrom pairVerdictAt
+  pair-breaks k q e f w u =
+      first-at _ (pair-meets-from k q) (I .size) e w ∙ first-at _ (pair-meets-at k q e) (I .size) f u ∙ judge-no _ _ (u .fails)
 
   membership-meets : (k : ℕ) (q : MembershipClaim) → (membershipVerdict grade (I .element) k q ≡ Meets) ↔ MeetsMembership G I q
   unfolding membershipVerdict
@@ -208,6 +233,10 @@ module _ (B : Book) (I : Interpretation) where
   unfolding rulesVerdict
   rules-meet = first-each _ rule-meets (B .rules) _
 
+  pairs-meet : (pairsVerdict (I .links) (I .size) (B .pairs) ≡ Meets) ↔ PairsMet B I
+  unfolding pairsVerdict
+  pairs-meet = first-each _ pair-meets (B .pairs) _
+
   memberships-meet : (membershipsVerdict grade (I .element) (B .memberships) ≡ Meets) ↔ MembershipsMet B I
   unfolding membershipsVerdict
   memberships-meet = first-each _ membership-meets (B .memberships) _
@@ -220,38 +249,54 @@ module _ (B : Book) (I : Interpretation) where
 
   -- an answer that is so is the verdict
   pub says-verdict : (v : Verdict) → Says B I v → verdictOf B I ≡ v
-  unfolding verdictOf verdictBy rulesVerdict membershipsVerdict linksVerdict
-  says-verdict Meets s = else-second _ _ (rules-meet .1 (s .0)) ∙ else-second _ _ (memberships-meet .1 (s .1)) ∙ links-meet .1 (s .2)
+  unfolding verdictOf verdictBy rulesVerdict pairsVerdict membershipsVerdict linksVerdict
+  says-verdict Meets s =
+      else-second _ _ (rules-meet .1 (s .0)) ∙ else-second _ _ (pairs-meet .1 (s .1)) ∙ else-second _ _ (memberships-meet .1 (s .2))
+      ∙ links-meet .1 (s .3)
   says-verdict (BreaksRule k e) s =
       let q : rulesVerdict grade (I .size) (B .rules) ≡ BreaksRule k e = first-at _ (λ j. rule-meets j _) (length (B .rules)) k (s .0) ∙ rule-breaks k _ e (s .1) in
       else-first _ _ (λ m. rule-broken k e (sym q ∙ m)) ∙ q
+  says-verdict (BreaksPair k e f) s =
+      let q : pairsVerdict (I .links) (I .size) (B .pairs) ≡ BreaksPair k e f =
+      first-at _ (λ j. pair-meets j _) (length (B .pairs)) k (s .1) ∙ pair-breaks k _ e f (s .2) (s .3) in
+      else-second _ _ (rules-meet .1 (s .0)) ∙ else-first _ _ (λ m. pair-broken k e f (sym q ∙ m)) ∙ q
   says-verdict (BreaksMembership k) s =
       let q : membershipsVerdict grade (I .element) (B .memberships) ≡ BreaksMembership k =
-      first-at _ (λ j. membership-meets j _) (length (B .memberships)) k (s .1) ∙ membership-breaks k _ (s .1 .fails) in
-      else-second _ _ (rules-meet .1 (s .0)) ∙ else-first _ _ (λ m. membership-broken k (sym q ∙ m)) ∙ q
+      first-at _ (λ j. membership-meets j _) (length (B .memberships)) k (s .2) ∙ membership-breaks k _ (s .2 .fails) in
+      else-second _ _ (rules-meet .1 (s .0)) ∙ else-second _ _ (pairs-meet .1 (s .1)) ∙ else-first _ _ (λ m. membership-broken k (sym q ∙ m)) ∙ q
   says-verdict (BreaksLink k) s =
-      else-second _ _ (rules-meet .1 (s .0)) ∙ else-second _ _ (memberships-meet .1 (s .1))
-      ∙ first-at _ (λ j. link-meets j _) (length (B .links)) k (s .2) ∙ link-breaks k _ (s .2 .fails)
+      else-second _ _ (rules-meet .1 (s .0)) ∙ else-second _ _ (pairs-meet .1 (s .1)) ∙ else-second _ _ (memberships-meet .1 (s .2))
+      ∙ first-at _ (λ j. link-meets j _) (length (B .links)) k (s .3) ∙ link-breaks k _ (s .3 .fails)
 
-  -- one answer is so: by the link claims, by them or the membership claims, by the rules or those
-  says-links : RulesMet B I → MembershipsMet B I → (v : Verdict) × Says B I v
+  -- one answer is so: by the link claims, by them or the membership claims, by the pairs or those, by the rules or those
+  says-links : RulesMet B I → PairsMet B I → MembershipsMet B I → (v : Verdict) × Says B I v
   unfolding linksVerdict
-  says-links r s =
-      ⊎-elim (λ l. (Meets, (r, s, links-meet .0 l))) (λ b.
-      let w = first-broken _ (λ j. link-meets j _) (length (B .links)) b in (BreaksLink (w .0), (r, s, w .1)))
+  says-links r p s =
+      ⊎-elim (λ l. (Meets, (r, p, s, links-meet .0 l))) (λ b.
+      let w = first-broken _ (λ j. link-meets j _) (length (B .links)) b in (BreaksLink (w .0), (r, p, s, w .1)))
       (met-or-broken (linksVerdict I (B .links)))
 
-  says-claims : RulesMet B I → (v : Verdict) × Says B I v
+  says-claims : RulesMet B I → PairsMet B I → (v : Verdict) × Says B I v
   unfolding membershipsVerdict
-  says-claims r =
-      ⊎-elim (λ m. says-links r (memberships-meet .0 m)) (λ b.
-      let w = first-broken _ (λ j. membership-meets j _) (length (B .memberships)) b in (BreaksMembership (w .0), (r, w .1)))
+  says-claims r p =
+      ⊎-elim (λ m. says-links r p (memberships-meet .0 m)) (λ b.
+      let w = first-broken _ (λ j. membership-meets j _) (length (B .memberships)) b in (BreaksMembership (w .0), (r, p, w .1)))
       (met-or-broken (membershipsVerdict grade (I .element) (B .memberships)))
+
+  says-pairs : RulesMet B I → (v : Verdict) × Says B I v
+  unfolding pairsVerdict pairVerdict pairVerdictFrom
+  says-pairs r =
+      ⊎-elim (λ m. says-claims r (pairs-meet .0 m)) (λ b.
+      let w = first-broken _ (λ j. pair-meets j _) (length (B .pairs)) b in
+      let q = nthPair (B .pairs) (w .0) in
+      let u = first-broken _ (pair-meets-from (w .0) q) (I .size) (λ m. w .1 .fails (pair-meets (w .0) q .0 m)) in
+      let x = first-broken _ (pair-meets-at (w .0) q (u .0)) (I .size) (λ m. u .1 .fails (pair-meets-from (w .0) q (u .0) .0 m)) in
+      (BreaksPair (w .0) (u .0) (x .0), (r, w .1, u .1, x .1))) (met-or-broken (pairsVerdict (I .links) (I .size) (B .pairs)))
 
   says-some : (v : Verdict) × Says B I v
   unfolding rulesVerdict ruleVerdict
   says-some =
-      ⊎-elim (λ m. says-claims (rules-meet .0 m)) (λ b.
+      ⊎-elim (λ m. says-pairs (rules-meet .0 m)) (λ b.
       let w = first-broken _ (λ j. rule-meets j _) (length (B .rules)) b in
       let u = first-broken _ (rule-meets-at (w .0) (nthRule (B .rules) (w .0))) (I .size) (λ m. w .1 .fails (rule-meets _ _ .0 m)) in
       (BreaksRule (w .0) (u .0), (w .1, u .1))) (met-or-broken (rulesVerdict grade (I .size) (B .rules)))

@@ -1,5 +1,6 @@
 -- What working out a sheet answers: ""meets", or the first rule broken with its lowest element, else the first membership claim broken, else the
--- first link claim". Document 01, "Working out a sheet".
+-- first link claim". Document 01, "Working out a sheet". Document 02, P1: "On a sheet, "meets" asks for every pair too, and a broken pair is named
+-- after the rules and before the claims, with its lowest first, then second element."
 -- Assumes nothing.
 use mathlib.Core.Path.{_≡_}
 use mathlib.Core.List.{List}
@@ -7,10 +8,11 @@ use Prim.Native.Nat.{ℕ, zero, suc, _≤_, _<_}
 use native.Mathlib.Decide.{decLe}
 use lib.ListN.{length, getD}
 use Rattle.chain.specs.Lists.{Each}
+use Rattle.semantics.specs.Roles.{RolePair}
 use Rattle.semantics.specs.Interpretations.{Grading, Interpretation, gradeAt}
-use Rattle.semantics.specs.Books.{Rule, at-least, MembershipClaim, LinkClaim, Book, claimed?, MeetsRule, MeetsMembership, MeetsLink}
+use Rattle.semantics.specs.Books.{Rule, at-least, MembershipClaim, LinkClaim, Book, claimed?, MeetsRule, MeetsPair, MeetsMembership, MeetsLink}
 use Rattle.working.specs.declared.Verdict.{Verdict}
-use Rattle.working.specs.declared.Verdict.the-variants.{Meets, BreaksRule, BreaksMembership, BreaksLink}
+use Rattle.working.specs.declared.Verdict.the-variants.{Meets, BreaksRule, BreaksPair, BreaksMembership, BreaksLink}
 
 -- ---- verdicts in order
 
@@ -27,6 +29,7 @@ judge (no _) broken = broken
 unfoldable pub orElse : Verdict → Verdict → Verdict
 orElse Meets w = w
 orElse (BreaksRule k e) w = BreaksRule k e
+orElse (BreaksPair k e f) w = BreaksPair k e f
 orElse (BreaksMembership k) w = BreaksMembership k
 orElse (BreaksLink k) w = BreaksLink k
 
@@ -35,10 +38,13 @@ unfoldable pub firstBroken : (ℕ → Verdict) → ℕ → Verdict
 firstBroken f zero = Meets
 firstBroken f (suc n) = orElse (firstBroken f n) (f n)
 
--- ---- rules and claims by number
+-- ---- rules, pairs and claims by number
 
 abbrev pub nthRule : List Rule → ℕ → Rule
 nthRule rs k = getD rs k (record { left = 0; right = 0 })
+
+abbrev pub nthPair : List RolePair → ℕ → RolePair
+nthPair ps k = getD ps k (record { lower = 0; upper = 0 })
 
 abbrev pub nthMembership : List MembershipClaim → ℕ → MembershipClaim
 nthMembership ms k = getD ms k (record { individual = 0; term = 0; sense = at-least; grade = 0 })
@@ -46,7 +52,7 @@ nthMembership ms k = getD ms k (record { individual = 0; term = 0; sense = at-le
 abbrev pub nthLink : List LinkClaim → ℕ → LinkClaim
 nthLink ls k = getD ls k (record { role = 0; source = 0; target = 0; grade = 0 })
 
--- ---- one rule or claim, q, of number k, by the terms' grades wherever these stand
+-- ---- one rule, pair or claim, q, of number k, by the terms' grades wherever these stand
 
 module _ (grade : (term element : ℕ) → ℕ) where
   unfoldable pub ruleVerdictAt : (k : ℕ) → Rule → (element : ℕ) → Verdict
@@ -61,6 +67,20 @@ module _ (grade : (term element : ℕ) → ℕ) where
   unfolding claimed?
   membershipVerdict element k q = judge (claimed? (q .sense) (q .grade) (grade (q .term) (element (q .individual)))) (BreaksMembership k)
 
+-- a pair, by the links
+module _ (link : (role source target : ℕ) → ℕ) where
+  unfoldable pub pairVerdictAt : (k : ℕ) → RolePair → (first second : ℕ) → Verdict
+  unfolding decLe
+  pairVerdictAt k q e f = judge (decLe (link (q .lower) e f) (link (q .upper) e f)) (BreaksPair k e f)
+
+  -- on n elements: where it is broken at e, with the lowest second element
+  unfoldable pub pairVerdictFrom : (n k : ℕ) → RolePair → (first : ℕ) → Verdict
+  pairVerdictFrom n k q e = firstBroken (pairVerdictAt k q e) n
+
+  -- where it is broken, "with its lowest first, then second element"
+  unfoldable pub pairVerdict : (n k : ℕ) → RolePair → Verdict
+  pairVerdict n k q = firstBroken (pairVerdictFrom n k q) n
+
 unfoldable pub linkVerdict : Interpretation → (k : ℕ) → LinkClaim → Verdict
 unfolding decLe
 linkVerdict I k q = judge (decLe (q .grade) (I .links (q .role) (I .element (q .source)) (I .element (q .target)))) (BreaksLink k)
@@ -74,16 +94,22 @@ module _ (grade : (term element : ℕ) → ℕ) where
   unfoldable pub membershipsVerdict : (element : (individual : ℕ) → ℕ) → List MembershipClaim → Verdict
   membershipsVerdict element ms = firstBroken (λ k. membershipVerdict grade element k (nthMembership ms k)) (length ms)
 
+unfoldable pub pairsVerdict : (link : (role source target : ℕ) → ℕ) (n : ℕ) → List RolePair → Verdict
+pairsVerdict link n ps = firstBroken (λ k. pairVerdict link n k (nthPair ps k)) (length ps)
+
 unfoldable pub linksVerdict : Interpretation → List LinkClaim → Verdict
 linksVerdict I ls = firstBroken (λ k. linkVerdict I k (nthLink ls k)) (length ls)
 
--- "the first rule broken .., else the first membership claim broken, else the first link claim"
-unfoldable pub verdictBy : (grade : (term element : ℕ) → ℕ) → Interpretation → List Rule → List MembershipClaim → List LinkClaim → Verdict
-verdictBy grade I rs ms ls = orElse (rulesVerdict grade (I .size) rs) (orElse (membershipsVerdict grade (I .element) ms) (linksVerdict I ls))
+-- "the first rule broken .., else the first membership claim broken, else the first link claim"; a pair "after the rules and before the claims"
+unfoldable pub verdictBy : (grade : (term element : ℕ) → ℕ) → Interpretation → List Rule → List RolePair → List MembershipClaim
+    → List LinkClaim → Verdict
+verdictBy grade I rs ps ms ls =
+    orElse (rulesVerdict grade (I .size) rs)
+    (orElse (pairsVerdict (I .links) (I .size) ps) (orElse (membershipsVerdict grade (I .element) ms) (linksVerdict I ls)))
 
 -- the answer on a book and an interpretation
 unfoldable pub verdictOf : Book → Interpretation → Verdict
-verdictOf B I = verdictBy (gradeAt (B .grading) I) I (B .rules) (B .memberships) (B .links)
+verdictOf B I = verdictBy (gradeAt (B .grading) I) I (B .rules) (B .pairs) (B .memberships) (B .links)
 
 -- ---- what each answer says
 
@@ -97,9 +123,19 @@ pub record FirstFailing (P : ℕ → Type 0) (n k : ℕ) : Type 0 where
 abbrev pub MeetsRuleAt : Grading → Interpretation → Rule → ℕ → Type 0
 MeetsRuleAt G I q e = gradeAt G I (q .left) e ≤ gradeAt G I (q .right) e
 
+-- pair q is met at first element e and second element f, and at e with every second element
+abbrev pub MeetsPairAt : Interpretation → RolePair → (e f : ℕ) → Type 0
+MeetsPairAt I q e f = I .links (q .lower) e f ≤ I .links (q .upper) e f
+
+abbrev pub MeetsPairFrom : Interpretation → RolePair → (e : ℕ) → Type 0
+MeetsPairFrom I q e = (f : ℕ) → f < I .size → MeetsPairAt I q e f
+
 module _ (B : Book) (I : Interpretation) where
   abbrev pub RulesMet : Type 0
   RulesMet = Each (MeetsRule (B .grading) I) (B .rules)
+
+  abbrev pub PairsMet : Type 0
+  PairsMet = Each (MeetsPair I) (B .pairs)
 
   abbrev pub MembershipsMet : Type 0
   MembershipsMet = Each (MeetsMembership (B .grading) I) (B .memberships)
@@ -108,10 +144,15 @@ module _ (B : Book) (I : Interpretation) where
   LinksMet = Each (MeetsLink I) (B .links)
 
   abbrev pub Says : Verdict → Type 0
-  Says Meets = RulesMet × MembershipsMet × LinksMet
+  Says Meets = RulesMet × PairsMet × MembershipsMet × LinksMet
   Says (BreaksRule k e) =
       FirstFailing (λ j. MeetsRule (B .grading) I (nthRule (B .rules) j)) (length (B .rules)) k
       × FirstFailing (MeetsRuleAt (B .grading) I (nthRule (B .rules) k)) (I .size) e
+  Says (BreaksPair k e f) =
+      RulesMet × FirstFailing (λ j. MeetsPair I (nthPair (B .pairs) j)) (length (B .pairs)) k
+      × FirstFailing (MeetsPairFrom I (nthPair (B .pairs) k)) (I .size) e
+      × FirstFailing (MeetsPairAt I (nthPair (B .pairs) k) e) (I .size) f
   Says (BreaksMembership k) =
-      RulesMet × FirstFailing (λ j. MeetsMembership (B .grading) I (nthMembership (B .memberships) j)) (length (B .memberships)) k
-  Says (BreaksLink k) = RulesMet × MembershipsMet × FirstFailing (λ j. MeetsLink I (nthLink (B .links) j)) (length (B .links)) k
+      RulesMet × PairsMet × FirstFailing (λ j. MeetsMembership (B .grading) I (nthMembership (B .memberships) j)) (length (B .memberships)) k
+  Says (BreaksLink k) =
+      RulesMet × PairsMet × MembershipsMet × FirstFailing (λ j. MeetsLink I (nthLink (B .links) j)) (length (B .links)) k

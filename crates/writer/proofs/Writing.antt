@@ -132,7 +132,7 @@ module _ (B : Book) where
         subst (λ (l : List ℕ). SheetRight l modelShape (B .grading .steps) (nameCount B) (roleCount B) (individuals B)) (sym (model-bytes (u .0) (u .1)))
         (sheet-right (B .grading .steps) (nameCount B) (roleCount B) (individuals B) (placedTypes B (u .0)) (u .2 .on-chain) few)
 
-    -- and it meets every rule and claim
+    -- and it meets every rule, pair and claim
     pub model-meets : verdictOf B (sheetOf (modelBytes B)) ≡ Meets
     model-meets =
         let u = found in

@@ -11,7 +11,7 @@ use Rattle.outcomes.specs.declared.Decision.the-variants.{Refused as NotDecided
 use Rattle.writer.specs.declared.Written.{Written}
 use Rattle.writer.specs.declared.Written.the-variants.{Refused as NotWritten, Sheet}
 use Rattle.working.specs.declared.Verdict.{Verdict}
-use Rattle.working.specs.declared.Verdict.the-variants.{Meets, BreaksRule, BreaksMembership, BreaksLink}
+use Rattle.working.specs.declared.Verdict.the-variants.{Meets, BreaksRule, BreaksPair, BreaksMembership, BreaksLink}
 use Rattle.checker.specs.declared.Worked.{Worked}
 use Rattle.checker.specs.declared.Worked.the-variants.{Refused as NotWorked, Says}
 use Rattle.checker.specs.declared.Answer.{Answer}
@@ -38,15 +38,17 @@ abbrev pub writtenNumbers : Written → WrittenNumbers
 writtenNumbers (NotWritten n) = record { refusal = n; length = 0 }
 writtenNumbers (Sheet l) = record { refusal = 0; length = l }
 
--- the verdict's own number, then the number of the rule or claim broken, and for a rule the lowest element
+-- the verdict's own number, then the number of the rule, pair or claim broken, for a rule the lowest element, and for a pair the lowest first and then
+-- second one
 abbrev pub verdictNumbers : Verdict → WorkedNumbers
-verdictNumbers Meets = record { refusal = 0; verdict = 0; number = 0; element = 0 }
-verdictNumbers (BreaksRule k e) = record { refusal = 0; verdict = 1; number = k; element = e }
-verdictNumbers (BreaksMembership k) = record { refusal = 0; verdict = 2; number = k; element = 0 }
-verdictNumbers (BreaksLink k) = record { refusal = 0; verdict = 3; number = k; element = 0 }
+verdictNumbers Meets = record { refusal = 0; verdict = 0; number = 0; element = 0; second = 0 }
+verdictNumbers (BreaksRule k e) = record { refusal = 0; verdict = 1; number = k; element = e; second = 0 }
+verdictNumbers (BreaksPair k e f) = record { refusal = 0; verdict = 4; number = k; element = e; second = f }
+verdictNumbers (BreaksMembership k) = record { refusal = 0; verdict = 2; number = k; element = 0; second = 0 }
+verdictNumbers (BreaksLink k) = record { refusal = 0; verdict = 3; number = k; element = 0; second = 0 }
 
 abbrev pub workedNumbers : Worked → WorkedNumbers
-workedNumbers (NotWorked n) = record { refusal = n; verdict = 0; number = 0; element = 0 }
+workedNumbers (NotWorked n) = record { refusal = n; verdict = 0; number = 0; element = 0; second = 0 }
 workedNumbers (Says v) = verdictNumbers v
 
 abbrev pub gradedNumbers : Answer → GradedNumbers

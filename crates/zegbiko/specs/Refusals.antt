@@ -24,7 +24,7 @@ use Rattle.writer.specs.Writing.{writeQuestions, writtenOf, writtenNumber}
 use Rattle.writer.specs.declared.Written.{Written}
 use Rattle.writer.specs.declared.Written.the-variants.{Refused as NotWritten, Sheet}
 use Rattle.writer.proofs.Writing.{writtenNumber-is}
-use Rattle.working.specs.declared.Verdict.the-variants.{Meets, BreaksRule, BreaksMembership, BreaksLink}
+use Rattle.working.specs.declared.Verdict.the-variants.{Meets, BreaksRule, BreaksPair, BreaksMembership, BreaksLink}
 use Rattle.checker.specs.Working.{workQuestions, workedOf, workedNumber}
 use Rattle.checker.specs.Asking.{gradeQuestions, linkQuestions, gradeAnswer, linkAnswer, answerNumber}
 use Rattle.checker.specs.declared.Worked.{Worked}
@@ -75,6 +75,7 @@ work-tells b t g = tells-first-no _ _ refl (go (workedOf b t g) ∙ ap orZero (w
     go (NotWorked n) = refl
     go (Says Meets) = refl
     go (Says (BreaksRule k e)) = refl
+    go (Says (BreaksPair k e f)) = refl
     go (Says (BreaksMembership k)) = refl
     go (Says (BreaksLink k)) = refl
 

@@ -38,14 +38,15 @@ pub struct WrittenNumbers {
     pub length: usize,
 }
 
-// The verdict is 0 for "meets", 1 for a rule broken, 2 for a membership claim, 3 for a link claim; then the number of that one, and for a rule the
-// lowest element.
+// The verdict is 0 for "meets", 1 for a rule broken, 2 for a membership claim, 3 for a link claim, 4 for a pair; then the number of that one, for a
+// rule the lowest element, and for a pair the lowest first and then second element.
 #[repr(C)]
 pub struct WorkedNumbers {
     pub refusal: u8,
     pub verdict: u8,
     pub number: usize,
     pub element: usize,
+    pub second: usize,
 }
 
 #[repr(C)]
@@ -118,24 +119,35 @@ fn verdict_numbers(v: Verdict) -> WorkedNumbers
             verdict: 0,
             number: 0,
             element: 0,
+            second: 0,
         },
         Verdict::BreaksRule(number, element) => WorkedNumbers {
             refusal: 0,
             verdict: 1,
             number,
             element,
+            second: 0,
+        },
+        Verdict::BreaksPair(number, element, second) => WorkedNumbers {
+            refusal: 0,
+            verdict: 4,
+            number,
+            element,
+            second,
         },
         Verdict::BreaksMembership(number) => WorkedNumbers {
             refusal: 0,
             verdict: 2,
             number,
             element: 0,
+            second: 0,
         },
         Verdict::BreaksLink(number) => WorkedNumbers {
             refusal: 0,
             verdict: 3,
             number,
             element: 0,
+            second: 0,
         },
     }
 }
@@ -149,6 +161,7 @@ fn worked_numbers(a: Worked) -> WorkedNumbers
             verdict: 0,
             number: 0,
             element: 0,
+            second: 0,
         },
         Worked::Says(v) => verdict_numbers(v),
     }

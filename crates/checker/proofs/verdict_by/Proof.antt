@@ -18,11 +18,14 @@ end-at-requires c κs = search needs
 rules-in-requires : tie.Need-rules-in-requires
 rules-in-requires c κs = right-ordered _ _ (c .before .before .before .before .before .before .pre .0)
 
+pairs-in-requires : tie.Need-pairs-in-requires
+pairs-in-requires c κs = right-ordered _ _ (c .before .before .before .before .before .before .before .pre .0)
+
 memberships-in-requires : tie.Need-memberships-in-requires
-memberships-in-requires c κs = right-ordered _ _ (c .before .before .before .before .before .before .before .pre .0)
+memberships-in-requires c κs = right-ordered _ _ (c .before .before .before .before .before .before .before .before .pre .0)
 
 links-in-requires : tie.Need-links-in-requires
-links-in-requires c κs = right-ordered _ _ (c .before .before .before .before .before .before .before .before .pre .0)
+links-in-requires c κs = right-ordered _ _ (c .before .before .before .before .before .before .before .before .before .pre .0)
 
 sub-verdict : tie.Need-sub-verdict
 sub-verdict c = search needs
@@ -45,16 +48,16 @@ part-verdict-end-2 c = search needs
 verdict-requires : tie.Need-verdict-requires
 verdict-requires c κs =
     let made = c .before .before in
-    let start = made .before .before .before .before .before .before .before .before .before in
-    rw (made .before .before .before .before .before .links-at .ensures, made .before .before .before .before .individuals-at .ensures, made .before .before .before .end-at .ensures)
-    (fits-covered _ _ _ (start .pre .0) _ (start .pre .1 .0) _ _ _ _ (made .before .before .rules-in .ensures) (made .before .memberships-in .ensures) (made .links-in .ensures) (start .pre .1 .1 .0))
+    let start = made .before .before .before .before .before .before .before .before .before .before in
+    rw (made .before .before .before .before .before .before .links-at .ensures, made .before .before .before .before .before .individuals-at .ensures, made .before .before .before .before .end-at .ensures)
+    (fits-covered _ _ _ (start .pre .0) _ (start .pre .1 .0) _ _ _ _ _ (made .before .before .before .rules-in .ensures) (made .before .before .pairs-in .ensures) (made .before .memberships-in .ensures) (made .links-in .ensures) (start .pre .1 .1 .0))
 
 returns : tie.Need-returns
 returns c =
     let made = c .before .before .before in
-    let start = made .before .before .before .before .before .before .before .before .before in
-    rw (c .verdict .ensures, made .before .before .before .before .before .links-at .ensures, made .before .before .before .before .individuals-at .ensures, made .before .before .before .end-at .ensures)
-    (fits-verdict _ _ _ (start .pre .0) _ (start .pre .1 .0) _ _ _ _ (made .before .before .rules-in .ensures) (made .before .memberships-in .ensures) (made .links-in .ensures) (start .pre .1 .1 .1))
+    let start = made .before .before .before .before .before .before .before .before .before .before in
+    rw (c .verdict .ensures, made .before .before .before .before .before .before .links-at .ensures, made .before .before .before .before .before .individuals-at .ensures, made .before .before .before .before .end-at .ensures)
+    (fits-verdict _ _ _ (start .pre .0) _ (start .pre .1 .0) _ _ _ _ _ (made .before .before .before .rules-in .ensures) (made .before .before .pairs-in .ensures) (made .before .memberships-in .ensures) (made .links-in .ensures) (start .pre .1 .1 .1))
 
 pub verdict-by-spec : {M : Type 1} → statement M
 verdict-by-spec =
@@ -64,6 +67,7 @@ verdict-by-spec =
     individuals-at-requires
     end-at-requires
     rules-in-requires
+    pairs-in-requires
     memberships-in-requires
     links-in-requires
     sub-verdict

@@ -10,6 +10,9 @@ use Rattle.verdicts.proofs.verdict.Tie as tie
 rules-verdict-requires : tie.Need-rules-verdict-requires
 rules-verdict-requires c κs = search needs
 
+pairs-verdict-requires : tie.Need-pairs-verdict-requires
+pairs-verdict-requires c κs = search needs
+
 memberships-verdict-requires : tie.Need-memberships-verdict-requires
 memberships-verdict-requires c κs = search needs
 
@@ -22,17 +25,25 @@ or-else-requires c κs = search needs
 or-else-requires-2 : tie.Need-or-else-requires-2
 or-else-requires-2 c κs = search needs
 
+or-else-requires-3 : tie.Need-or-else-requires-3
+or-else-requires-3 c κs = search needs
+
 returns : tie.Need-returns
 unfolding verdictIn verdictBy
-returns c = c .or-else2 .ensures ∙ ap₂ orElse (c .before .before .before .before .rules-verdict .ensures) (c .before .or-else .ensures ∙ ap₂ orElse (c .before .before .before .memberships-verdict .ensures) (c .before .before .links-verdict .ensures))
+returns c =
+    c .or-else3 .ensures ∙ ap₂ orElse (c .before .before .before .before .before .before .rules-verdict .ensures)
+    (c .before .or-else2 .ensures ∙ ap₂ orElse (c .before .before .before .before .before .pairs-verdict .ensures)
+    (c .before .before .or-else .ensures ∙ ap₂ orElse (c .before .before .before .before .memberships-verdict .ensures) (c .before .before .before .links-verdict .ensures)))
 
 pub verdict-spec : {M : Type 1} → statement M
 verdict-spec =
     tie.close
     (tie.spec
     rules-verdict-requires
+    pairs-verdict-requires
     memberships-verdict-requires
     links-verdict-requires
     or-else-requires
     or-else-requires-2
+    or-else-requires-3
     returns)

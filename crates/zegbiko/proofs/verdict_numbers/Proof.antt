@@ -18,6 +18,9 @@ enum-known-v-2 c = search needs
 enum-known-v-3 : tie.Need-enum-known-v-3
 enum-known-v-3 c = search needs
 
+enum-known-v-4 : tie.Need-enum-known-v-4
+enum-known-v-4 c = search needs
+
 returns : tie.Need-returns
 returns c = ap verdictNumbers (sym (c .enum-told .given .1))
 
@@ -30,5 +33,10 @@ returns-3 c = ap verdictNumbers (sym (c .before .v2 .given .1))
 returns-4 : tie.Need-returns-4
 returns-4 c = ap verdictNumbers (sym (c .before .v3 .given .1))
 
+returns-5 : tie.Need-returns-5
+returns-5 c = ap verdictNumbers (sym (c .before .v4 .given .1))
+
 pub verdict-numbers-spec : {M : Type 1} → statement M
-verdict-numbers-spec = tie.close (tie.spec enum-told enum-known-v enum-known-v-2 enum-known-v-3 returns returns-2 returns-3 returns-4)
+verdict-numbers-spec =
+    tie.close
+    (tie.spec enum-told enum-known-v enum-known-v-2 enum-known-v-3 enum-known-v-4 returns returns-2 returns-3 returns-4 returns-5)
