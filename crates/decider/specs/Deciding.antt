@@ -1,4 +1,4 @@
--- What deciding a book answers, and what it leaves in the marks and in the placement: after the checks 1 to 10, 11 and then 12. Document 01,
+-- What deciding a book answers, and what it leaves in the marks and in the placement: after the checks 1 to 9, 22 and 10, 11 and then 12. Document 01,
 -- "Types and links" and "Deciding, then".
 -- Assumes nothing.
 use mathlib.Core.Path.{_≡_}

@@ -1,5 +1,5 @@
 -- Demand 1, of every call and of bytes of any kind: each call answers, and what it does not accept it refuses with the number of the first
--- question that says no, in document 01's order ("The checks, as questions"); and what every buffer holds after a refusal.
+-- question that says no, in the order of documents 01 ("The checks, as questions") and 02; and what every buffer holds after a refusal.
 --
 -- In words, what the prover's acceptance adds, since it is asked of every function before any contract: each call ends on every input, never stops
 -- on the way (no index out of range, no number out of its type's range), and reads and writes nothing outside the slices that it is handed. None
@@ -39,42 +39,42 @@ abbrev numbers : List Question → List ℕ
 numbers = map (λ q. q .number)
 
 module _ (b : List ℕ) where
-  -- "Every call on a book": `book::open`
-  pub opening-asks : numbers (bookQuestions b) ≡ 1 ∷ 2 ∷ 3 ∷ 4 ∷ 5 ∷ 6 ∷ 7 ∷ 8 ∷ 9 ∷ []
+  -- "Every call on a book", and "22 .., straight after 9, on every call on a book": `book::open`
+  pub opening-asks : numbers (bookQuestions b) ≡ 1 ∷ 2 ∷ 3 ∷ 4 ∷ 5 ∷ 6 ∷ 7 ∷ 8 ∷ 9 ∷ 22 ∷ []
   opening-asks = refl
 
   pub opening-refuses : openedNumber (openedOf b) ≡ firstNo (bookQuestions b)
   opening-refuses = Opening.openedNumber-is b
 
   -- then "Are there at most 16,384 candidates?": `counter::count`
-  pub counting-asks : numbers (candidateQuestions b) ≡ 1 ∷ 2 ∷ 3 ∷ 4 ∷ 5 ∷ 6 ∷ 7 ∷ 8 ∷ 9 ∷ 10 ∷ []
+  pub counting-asks : numbers (candidateQuestions b) ≡ 1 ∷ 2 ∷ 3 ∷ 4 ∷ 5 ∷ 6 ∷ 7 ∷ 8 ∷ 9 ∷ 22 ∷ 10 ∷ []
   counting-asks = refl
 
   pub counting-refuses : countedNumber (countedOf b) ≡ firstNo (candidateQuestions b)
   counting-refuses = Counting.countedNumber-is b
 
   -- "Deciding, then", with m mark bytes and p placement bytes: `decider::decide`
-  pub deciding-asks : (m p : ℕ) → numbers (decideQuestions b m p) ≡ 1 ∷ 2 ∷ 3 ∷ 4 ∷ 5 ∷ 6 ∷ 7 ∷ 8 ∷ 9 ∷ 10 ∷ 11 ∷ 12 ∷ []
+  pub deciding-asks : (m p : ℕ) → numbers (decideQuestions b m p) ≡ 1 ∷ 2 ∷ 3 ∷ 4 ∷ 5 ∷ 6 ∷ 7 ∷ 8 ∷ 9 ∷ 22 ∷ 10 ∷ 11 ∷ 12 ∷ []
   deciding-asks m p = refl
 
   pub deciding-refuses : (m p : ℕ) → decisionNumber (decisionOf b m p) ≡ firstNo (decideQuestions b m p)
   deciding-refuses = Deciding.decisionNumber-is b
 
   -- "Working out a sheet, after 9", with a grid buffer of g bytes: `checker::work_out`
-  pub working-asks : (t : List ℕ) (g : ℕ) → numbers (workQuestions b t g) ≡ 1 ∷ 2 ∷ 3 ∷ 4 ∷ 5 ∷ 6 ∷ 7 ∷ 8 ∷ 9 ∷ 13 ∷ 14 ∷ 15 ∷ 16 ∷ []
+  pub working-asks : (t : List ℕ) (g : ℕ) → numbers (workQuestions b t g) ≡ 1 ∷ 2 ∷ 3 ∷ 4 ∷ 5 ∷ 6 ∷ 7 ∷ 8 ∷ 9 ∷ 22 ∷ 13 ∷ 14 ∷ 15 ∷ 16 ∷ []
   working-asks t g = refl
 
   pub working-refuses : (t : List ℕ) (g : ℕ) → workedNumber (workedOf b t g) ≡ firstNo (workQuestions b t g)
   working-refuses = Working.workedNumber-is b
 
   -- "Grade of a term in a candidate, or link of two candidates, after 10": `checker::grade`, `checker::link`
-  pub grading-asks : (c i : ℕ) → numbers (gradeQuestions b c i) ≡ 1 ∷ 2 ∷ 3 ∷ 4 ∷ 5 ∷ 6 ∷ 7 ∷ 8 ∷ 9 ∷ 10 ∷ 20 ∷ 21 ∷ []
+  pub grading-asks : (c i : ℕ) → numbers (gradeQuestions b c i) ≡ 1 ∷ 2 ∷ 3 ∷ 4 ∷ 5 ∷ 6 ∷ 7 ∷ 8 ∷ 9 ∷ 22 ∷ 10 ∷ 20 ∷ 21 ∷ []
   grading-asks c i = refl
 
   pub grading-refuses : (c i : ℕ) → answerNumber (gradeAnswer b c i) ≡ firstNo (gradeQuestions b c i)
   grading-refuses = Asking.gradeNumber-is b
 
-  pub linking-asks : (r c d : ℕ) → numbers (linkQuestions b r c d) ≡ 1 ∷ 2 ∷ 3 ∷ 4 ∷ 5 ∷ 6 ∷ 7 ∷ 8 ∷ 9 ∷ 10 ∷ 20 ∷ 21 ∷ []
+  pub linking-asks : (r c d : ℕ) → numbers (linkQuestions b r c d) ≡ 1 ∷ 2 ∷ 3 ∷ 4 ∷ 5 ∷ 6 ∷ 7 ∷ 8 ∷ 9 ∷ 22 ∷ 10 ∷ 20 ∷ 21 ∷ []
   linking-asks r c d = refl
 
   pub linking-refuses : (r c d : ℕ) → answerNumber (linkAnswer b r c d) ≡ firstNo (linkQuestions b r c d)

@@ -63,6 +63,8 @@ module _ (b t grid : List ℕ) (ok : firstNo (workQuestions b t (length grid)) �
   pub grid-is-kept : drop (gridSize b t) (gridAfter b t grid) ≡ drop (gridSize b t) grid
   grid-is-kept = Grids.grid-kept b t grid ok
 
-  -- "The answer is "meets", or the first rule broken with its lowest element, else the first membership claim broken, else the first link claim."
+  -- "The answer is "meets", or the first rule broken with its lowest element, else the first membership claim broken, else the first link claim.";
+  -- "On a sheet, "meets" asks for every pair too, and a broken pair is named after the rules and before the claims, with its lowest first, then
+  -- second element." (document 02, P1)
   pub answer-says : (v : Verdict) → (workedOf b t (length grid) ≡ Answers v) ↔ Says (bookOf b) (sheetOf t) v
   answer-says = Grids.answered b t grid ok

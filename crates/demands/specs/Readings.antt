@@ -1,4 +1,4 @@
--- The readings on file of document 01, on bytes: one theorem over the whole table, links and books.
+-- The readings on file of document 01, on bytes: one theorem over the whole table, links and books; and one over readings of document 02, P1.
 -- Assumes nothing.
 use mathlib.Core.Path.{_≡_, refl, _∙_}
 use mathlib.Core.Option.{none}
@@ -12,14 +12,16 @@ use Rattle.chain.specs.Lists.{Each, table, highest, from, keep, each?, any?}
 use Rattle.chain.specs.Digits.{digit}
 use Rattle.chain.proofs.Lists.{each-mem, mem-each}
 use Rattle.semantics.specs.Terms.{value, deep}
+use Rattle.semantics.specs.Roles.{upward?, rolePairs, hierarchy}
 use Rattle.semantics.specs.Books.{individuals}
 use Rattle.types.specs.Candidates.{bearer, opens?, places, homeAs, home, placeNumber, candidates, gradeIn}
 use Rattle.semantics.specs.Links.{linkBetween}
 use Rattle.sections.specs.Terms.{termsRight?, termsOf}
 use Rattle.claims.specs.Rules.{rulesRight?, rulesOf}
+use Rattle.claims.specs.Pairs.{pairsRight?, pairsOf}
 use Rattle.claims.specs.Claims.{membershipsRight?, linksRight?, membershipsOf, linksOf}
 use Rattle.encoding.specs.Words.{wordAt}
-use Rattle.layout.specs.Layout.{sectionsOf, lengthRight?, editionRight?, stepsRight?, countsRight?, laidOut?}
+use Rattle.layout.specs.Layout.{byEdition, sectionsOf, lengthRight?, editionRight?, stepsRight?, countsRight?, laidOut?}
 use Rattle.book.specs.Reading.{bookOf}
 use Rattle.counter.specs.Counting.{fewCandidates?, candidateQuestions}
 use Rattle.checker.specs.Asking.{linkAnswer}
@@ -34,7 +36,7 @@ use Rattle.elimination.specs.Survivors.{fits?, settle, survivors}
 use Rattle.placement.specs.Dictionary.{tryEach}
 use Rattle.placement.specs.Outcome.{holds?, placementAmong, placement, outcome}
 
--- a reading of document 01, of a book's bytes
+-- a reading, of a book's bytes
 pub data Reading : Type 0 where
   -- for role 0 the link from the one candidate to the other
   link-reading : (bytes : List ℕ) (source target link : ℕ) → Reading
@@ -146,8 +148,8 @@ computed (book-reading b o k ms ps) (asked, count, answer, marks-are, placement-
     (Left.decided-is b marks buffer d ∙ answer, Left.marks-is b marks buffer d ∙ marks-are marks, Left.placement-is b marks buffer d ∙ placement-is buffer)
 
 computing : Each Computes readings
-unfolding linkAnswer firstNo says lengthRight? editionRight? stepsRight? countsRight? laidOut? termsRight? rulesRight? membershipsRight? linksRight? fewCandidates?
-    bookOf sectionsOf wordAt termsOf rulesOf membershipsOf linksOf table outcome placement placementAmong individuals highest tryEach holds? survivors
+unfolding linkAnswer firstNo says lengthRight? editionRight? stepsRight? countsRight? laidOut? termsRight? rulesRight? membershipsRight? linksRight? pairsRight? fewCandidates?
+    bookOf byEdition sectionsOf wordAt termsOf rulesOf pairsOf membershipsOf linksOf table outcome placement placementAmong individuals highest tryEach holds? survivors
     settle fits? from keep each? any? marksOf candidates places linkBetween gradeIn value deep placeNumber home homeAs bearer first opens? rank digit flatMap
 computing = (
   refl,
@@ -184,3 +186,53 @@ computing = (
 -- every reading is as document 01 has it
 pub readings-on-file : Each Reads readings
 readings-on-file = mem-each {P = Reads} readings (λ q m. computed q (each-mem Computes readings computing q m))
+
+-- ---- readings of document 02, P1, of our own
+
+-- Edition 2, N 1: a name A and "all r1 A". Individual 0 has "all r1 A" at least 1 and a link of role 0, at least 1, to individual 1, which has A at
+-- most 0. With n pairs, which these bytes are.
+abbrev harness : (n : ℕ) → List ℕ → List ℕ
+harness n ps =
+    0x02 ∷ 0x01 ∷ 0x00 ∷ 0x16 ∷ 0x00 ∷ 0x02 ∷ 0x00 ∷ 0x1c ∷ 0x00 ∷ 0x00 ∷ 0x00 ∷ 0x1c ∷ 0x00 ∷ 0x02 ∷ 0x00 ∷ 0x24 ∷ 0x00 ∷ 0x01 ∷ 0x00 ∷ 0x28 ∷ 0x00 ∷ n
+    ∷ 0x00 ∷ 0x00 ∷ 0x00 ∷ 0x05 ∷ 0x01 ∷ 0x00
+    ∷ 0x00 ∷ 0x01 ∷ 0x00 ∷ 0x01 ∷ 0x01 ∷ 0x00 ∷ 0x01 ∷ 0x00
+    ∷ 0x00 ∷ 0x00 ∷ 0x01 ∷ 0x01
+    ∷ ps
+
+-- all four candidates survive; the individuals sit at candidates 2 and 0, or nowhere
+abbrev seated : (n : ℕ) → List ℕ → Reading
+seated n ps = book-reading (harness n ps) 1 4 (1 ∷ 1 ∷ 1 ∷ 1 ∷ []) (0 ∷ 2 ∷ 0 ∷ 0 ∷ [])
+
+abbrev unseated : (n : ℕ) → List ℕ → Reading
+unseated n ps = book-reading (harness n ps) 2 4 (1 ∷ 1 ∷ 1 ∷ 1 ∷ []) []
+
+abbrev pub rankedReadings : List Reading
+rankedReadings =
+    -- no pairs, and a role under itself: the link claim is on another role than the "all"
+    seated 0 [] ∷ seated 1 (0 ∷ 0 ∷ [])
+    -- a link claim on the lower role is seen by an "all" on the upper, and not the other way round
+    ∷ unseated 1 (0 ∷ 1 ∷ []) ∷ seated 1 (1 ∷ 0 ∷ [])
+    -- through a role that no term uses, and in a circle of three
+    ∷ unseated 2 (0 ∷ 2 ∷ 2 ∷ 1 ∷ []) ∷ unseated 3 (0 ∷ 2 ∷ 2 ∷ 1 ∷ 1 ∷ 0 ∷ []) ∷ []
+
+rankedComputing : Each Computes rankedReadings
+unfolding firstNo says lengthRight? editionRight? stepsRight? countsRight? laidOut? termsRight? rulesRight? membershipsRight? linksRight? pairsRight? fewCandidates?
+    bookOf byEdition sectionsOf wordAt termsOf rulesOf pairsOf membershipsOf linksOf table outcome placement placementAmong individuals highest tryEach holds? survivors
+    settle fits? from keep each? any? marksOf candidates places linkBetween gradeIn value deep placeNumber home homeAs bearer first opens? rank digit flatMap
+    hierarchy rolePairs upward?
+rankedComputing = (
+  (refl, refl, refl, λ _. refl, λ _. refl),
+  (
+    (refl, refl, refl, λ _. refl, λ _. refl),
+    (
+      (refl, refl, refl, λ _. refl, λ _. refl),
+      (
+        (refl, refl, refl, λ _. refl, λ _. refl),
+        ((refl, refl, refl, λ _. refl, λ _. refl), ((refl, refl, refl, λ _. refl, λ _. refl), tt)),
+      ),
+    ),
+  ),
+)
+
+pub readings-of-pairs : Each Reads rankedReadings
+readings-of-pairs = mem-each {P = Reads} rankedReadings (λ q m. computed q (each-mem Computes rankedReadings rankedComputing q m))

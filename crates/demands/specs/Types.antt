@@ -12,11 +12,13 @@ use Rattle.chain.specs.Digits.{digit}
 use Rattle.chain.specs.Lists.{Mem}
 use Rattle.chain.specs.Questions.{firstNo}
 use Rattle.semantics.specs.Terms.{some, all}
+use Rattle.semantics.specs.Roles.{Upward}
 use Rattle.semantics.specs.Interpretations.{Grading, Interpretation, WellFormed}
 use Rattle.semantics.specs.Table.{TermIs, Follows}
 use Rattle.semantics.specs.Books.{Book, MeetsClaims}
+use Rattle.semantics.proofs.Governs.{governs-upward}
 use Rattle.types.specs.Candidates.{candidates, gradeIn}
-use Rattle.types.specs.Links.{link}
+use Rattle.types.specs.Links.{link, ownBound, LeastOf}
 use Rattle.types.proofs.Candidates as Candidates
 use Rattle.types.proofs.Links as Links
 use Rattle.book.specs.Reading.{bookOf}
@@ -65,16 +67,30 @@ module _ (b : List ℕ) (ok : Accepts b) where
   types-differ = Candidates.gradeIn-inj G w
 
   -- "The link between two candidates for a role is the greatest r at which, for each "all" term of that role, max(N − r, child in the second)
-  -- is at least its grade in the first, and for each "some" term min(r, child in the second) is at most its grade in the first."
-  pub link-is-greatest : (r c d s : ℕ) → s ≤ N → (s ≤ link G r c d)
+  -- is at least its grade in the first, and for each "some" term min(r, child in the second) is at most its grade in the first.": which is now the
+  -- role's own bound
+  pub own-bound-is-greatest : (r c d s : ℕ) → s ≤ N → (s ≤ ownBound G r c d)
       ↔ (((i x : ℕ) → TermIs G i (all r x) → gradeIn G c i ≤ max (N - s) (gradeIn G d x))
       × ((i x : ℕ) → TermIs G i (some r x) → min s (gradeIn G d x) ≤ gradeIn G c i))
   unfolding bookOf
-  link-is-greatest r c d s h =
-      let u = Links.link-each G r c d w s h in (
+  own-bound-is-greatest r c d s h =
+      let u = Links.bound-each G r c d w s h in (
         λ l. let e = u .0 l in (λ i x t. e .0 i (t .0) x (t .1), λ i x t. e .1 i (t .0) x (t .1)),
         λ e. u .1 (λ i l x t. e .0 i x (l, t), λ i l x t. e .1 i x (l, t)),
       )
+
+  pub own-bound-is-on-chain : (r c d : ℕ) → ownBound G r c d ≤ N
+  own-bound-is-on-chain = Links.bound-le G
+
+  -- "A link of two candidates is now the least of its own bound and those of all roles reachable upward" (document 02, P1)
+  pub link-is-least : (r c d : ℕ) → LeastOf (Upward (bookOf b .pairs) r) (λ t. ownBound G t c d) (link G r c d)
+  link-is-least r c d =
+      let v = accepts-valid b ok in
+      let reached = governs-upward G (bookOf b .pairs) (v .pairs-in) (v .ranked) in
+      let m = Links.link-is-least G r c d w in record {
+        none-less = λ t u. m .none-less t (reached t r .1 u);
+        one-of-them = let (t, g, e) = m .one-of-them in (t, reached t r .0 g, e);
+      }
 
   pub link-is-on-chain : (r c d : ℕ) → link G r c d ≤ N
   link-is-on-chain = Links.link-le G

@@ -32,6 +32,6 @@ abbrev pub printedBy : Option ℕ → Book → List ℕ
 printedBy none B = decidedLines B
 printedBy (some n) B = refusedLine n
 
--- of a book's bytes: the program's buffers are large enough, so the checks are 1 to 10
+-- of a book's bytes: the program's buffers are large enough, so the checks are 1 to 9, 22 and 10
 unfoldable pub printoutOf : List ℕ → List ℕ
 printoutOf b = printedBy (firstNo (candidateQuestions b)) (bookOf b)
