@@ -50,6 +50,7 @@ fn is_meets(v: Verdict) -> bool {
     match v {
         Verdict::Meets => true,
         Verdict::BreaksRule(_, _) => false,
+        Verdict::BreaksPair(_, _, _) => false,
         Verdict::BreaksMembership(_) => false,
         Verdict::BreaksLink(_) => false,
     }

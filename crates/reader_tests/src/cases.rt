@@ -1,4 +1,4 @@
-// Cases written by hand from document 01: what the book is made of and, after the arrow, the number of the first check that says no, or 0 and
+// Cases written by hand from documents 01 and 02: what the book is made of and, after the arrow, the number of the first check that says no, or 0 and
 // the number of candidates.
 use crate::answers::Answer;
 use crate::books::blank;
@@ -38,8 +38,30 @@ fn plain_readings(mut t: Tally) -> Tally {
     )
 }
 
+// The printed book in edition 2, without pairs, then with role 0 under 7 and 3 under itself: pairs do not change the candidates.
+fn ranked_readings(mut t: Tally) -> Tally {
+    t = written(
+        t,
+        b"
+        02 02  00 16 00 02  00 1C 00 02  00 20 00 01  00 24 00 00  00 24 00 00
+        00 00 00 01 00 00  00 01 01 00  00 00 00 01
+        ",
+        0,
+        3,
+    );
+    written(
+        t,
+        b"
+        02 02  00 16 00 02  00 1C 00 02  00 20 00 01  00 24 00 00  00 24 00 02
+        00 00 00 01 00 00  00 01 01 00  00 00 00 01  00 07 03 03
+        ",
+        0,
+        3,
+    )
+}
+
 pub fn readings() -> Tally {
-    let mut t = plain_readings(begin());
+    let mut t = ranked_readings(plain_readings(begin()));
     // A not greater than "some r0 A", claim A at least 1
     t = written(
         t,
@@ -65,7 +87,7 @@ pub fn readings() -> Tally {
 
 // Check 1. Terms, rules, membership claims, link claims, length.
 pub fn lengths() -> Tally {
-    run(
+    let t = run(
         begin(),
         Recipe::Sized,
         b"
@@ -74,30 +96,71 @@ pub fn lengths() -> Tally {
         1 1 1 1 17 -> 1;  1 1 1 1 31 -> 0 1
         64 64 64 64 849 -> 5;  64 64 64 64 850 -> 0 1;  64 64 64 64 851 -> 1
         ",
-    )
+    );
+    ranked_lengths(t)
 }
 
-// Check 2. Byte, its value, length.
-pub fn editions() -> Tally {
-    let t = run(
-        begin(),
-        Recipe::Empty,
+// Edition 2: the same with pairs before the length. Then byte, its value, length: byte 0 says which lengths are right, 22 to 982 where it is 2 and
+// 18 to 850 where it is not. The head is that of edition 2 without records, so a length that is right is refused 2 or 5.
+fn ranked_lengths(mut t: Tally) -> Tally {
+    t = run(
+        t,
+        Recipe::RankedSized,
         b"
-        0 0 18 -> 2;  0 1 18 -> 0 1;  0 2 18 -> 2;  0 255 18 -> 2
+        0 0 0 0 0 0 -> 1;  0 0 0 0 0 1 -> 1
+        0 0 0 0 0 18 -> 1;  0 0 0 0 0 21 -> 1;  0 0 0 0 0 22 -> 0 1
+        1 1 1 1 1 21 -> 1;  1 1 1 1 1 37 -> 0 1
+        64 64 64 64 0 854 -> 0 1;  64 64 64 64 64 850 -> 5;  64 64 64 64 64 851 -> 5
+        64 64 64 64 64 981 -> 5;  64 64 64 64 64 982 -> 0 1;  64 64 64 64 64 983 -> 1
         ",
     );
     run(
         t,
+        Recipe::RankedEmpty,
+        b"
+        0 1 17 -> 1;  0 1 18 -> 5;  0 1 21 -> 5;  0 1 850 -> 5;  0 1 851 -> 1;  0 1 982 -> 1;  0 1 983 -> 1
+        0 2 17 -> 1;  0 2 18 -> 1;  0 2 21 -> 1;  0 2 850 -> 5;  0 2 851 -> 5;  0 2 982 -> 5;  0 2 983 -> 1
+        0 3 17 -> 1;  0 3 18 -> 2;  0 3 21 -> 2;  0 3 850 -> 2;  0 3 851 -> 1;  0 3 982 -> 1;  0 3 983 -> 1
+        0 0 17 -> 1;  0 0 18 -> 2;  0 0 21 -> 2;  0 0 850 -> 2;  0 0 851 -> 1;  0 0 982 -> 1;  0 0 983 -> 1
+        ",
+    )
+}
+
+// Check 2. Byte, its value, length. Edition 1 called 2 is too short or has bodies at the wrong place, and so has edition 2 called 1.
+pub fn editions() -> Tally {
+    let mut t = run(
+        begin(),
+        Recipe::Empty,
+        b"
+        0 0 18 -> 2;  0 1 18 -> 0 1;  0 2 18 -> 1;  0 3 18 -> 2;  0 255 18 -> 2
+        ",
+    );
+    t = run(
+        t,
         Recipe::Sample,
         b"
-        0 0 37 -> 2;  0 1 37 -> 0 9;  0 2 37 -> 2
+        0 0 37 -> 2;  0 1 37 -> 0 9;  0 2 37 -> 5;  0 3 37 -> 2
+        ",
+    );
+    t = run(
+        t,
+        Recipe::RankedEmpty,
+        b"
+        0 0 22 -> 2;  0 1 22 -> 5;  0 2 22 -> 0 1;  0 3 22 -> 2;  0 255 22 -> 2
+        ",
+    );
+    run(
+        t,
+        Recipe::RankedSample,
+        b"
+        0 0 45 -> 2;  0 1 45 -> 5;  0 2 45 -> 0 9;  0 3 45 -> 2;  0 255 45 -> 2
         ",
     )
 }
 
 // Check 3. Byte, its value, length.
 pub fn steps() -> Tally {
-    let t = run(
+    let mut t = run(
         begin(),
         Recipe::Empty,
         b"
@@ -105,19 +168,27 @@ pub fn steps() -> Tally {
         1 8 18 -> 0 1;  1 9 18 -> 3;  1 255 18 -> 3
         ",
     );
-    run(
+    t = run(
         t,
         Recipe::Sample,
         b"
         1 0 37 -> 3;  1 1 37 -> 0 4
         1 8 37 -> 0 81;  1 9 37 -> 3
         ",
+    );
+    run(
+        t,
+        Recipe::RankedSample,
+        b"
+        1 0 45 -> 3;  1 1 45 -> 0 4
+        1 8 45 -> 0 81;  1 9 45 -> 3
+        ",
     )
 }
 
 // Check 4. Terms, rules, membership claims, link claims, length; then byte, its value, length: the low and the high byte of each count.
 pub fn counts() -> Tally {
-    let t = run(
+    let mut t = run(
         begin(),
         Recipe::Sized,
         b"
@@ -127,7 +198,7 @@ pub fn counts() -> Tally {
         0 0 0 64 274 -> 0 1;  0 0 0 65 278 -> 4
         ",
     );
-    run(
+    t = run(
         t,
         Recipe::Sample,
         b"
@@ -135,6 +206,30 @@ pub fn counts() -> Tally {
         9 65 37 -> 4;  9 255 37 -> 4;  8 1 37 -> 4
         13 65 37 -> 4;  13 255 37 -> 4;  12 1 37 -> 4
         17 65 37 -> 4;  17 255 37 -> 4;  16 1 37 -> 4
+        ",
+    );
+    ranked_counts(t)
+}
+
+// Edition 2: the same with pairs.
+fn ranked_counts(mut t: Tally) -> Tally {
+    t = run(
+        t,
+        Recipe::RankedSized,
+        b"
+        64 0 0 0 0 214 -> 0 1;  65 0 0 0 0 217 -> 4
+        1 64 0 0 0 153 -> 0 1;  1 65 0 0 0 155 -> 4
+        1 0 64 0 0 281 -> 0 1;  1 0 65 0 0 285 -> 4
+        0 0 0 64 0 278 -> 0 1;  0 0 0 65 0 282 -> 4
+        0 0 0 0 1 24 -> 0 1;  0 0 0 0 64 150 -> 0 1;  0 0 0 0 65 152 -> 4
+        ",
+    );
+    run(
+        t,
+        Recipe::RankedSample,
+        b"
+        5 65 45 -> 4;  9 65 45 -> 4;  13 65 45 -> 4;  17 65 45 -> 4
+        21 64 45 -> 5;  21 65 45 -> 4;  21 255 45 -> 4;  20 1 45 -> 4
         ",
     )
 }
@@ -165,6 +260,7 @@ pub fn layout() -> Tally {
         7 17 18 -> 5;  11 19 18 -> 5
         ",
     );
+    t = ranked_layout(t);
     written(
         t,
         b"
@@ -173,6 +269,30 @@ pub fn layout() -> Tally {
         ",
         5,
         0,
+    )
+}
+
+// Edition 2: bodies from byte 22 on, the pairs where the link claims end, the length where the pairs end.
+fn ranked_layout(mut t: Tally) -> Tally {
+    t = run(
+        t,
+        Recipe::RankedSample,
+        b"
+        3 18 45 -> 5;  3 21 45 -> 5;  3 22 45 -> 0 9;  3 23 45 -> 5;  2 1 45 -> 5
+        7 30 45 -> 5;  7 32 45 -> 5;  11 32 45 -> 5;  11 34 45 -> 5;  15 36 45 -> 5;  15 38 45 -> 5
+        19 40 45 -> 5;  19 41 45 -> 0 9;  19 42 45 -> 5;  19 0 45 -> 5;  18 1 45 -> 5
+        5 2 45 -> 5;  9 2 45 -> 5;  13 0 45 -> 5;  17 0 45 -> 5;  17 2 45 -> 5
+        21 0 45 -> 5;  21 1 45 -> 5;  21 3 45 -> 5
+        0 2 41 -> 5;  0 2 43 -> 5;  0 2 44 -> 5;  0 2 46 -> 5
+        ",
+    );
+    run(
+        t,
+        Recipe::RankedEmpty,
+        b"
+        0 2 23 -> 5;  0 2 24 -> 5
+        19 22 22 -> 0 1;  19 0 22 -> 5;  19 18 22 -> 5;  19 21 22 -> 5;  19 23 22 -> 5
+        ",
     )
 }
 
@@ -259,6 +379,33 @@ pub fn links() -> Tally {
     )
 }
 
+// Check 22. Lower, upper, lower, upper; then byte, its value, length. Roles 0 to 7 are right in each place, also one role twice (3 3), a pair
+// that recurs (2 5), a circle (0 7, 7 0; 0 1, 1 0).
+pub fn pairs() -> Tally {
+    let t = run(
+        begin(),
+        Recipe::Pairs,
+        b"
+        0 0 0 0 -> 0 1;  7 7 7 7 -> 0 1;  3 3 3 3 -> 0 1;  2 5 2 5 -> 0 1;  0 7 7 0 -> 0 1
+        7 0 0 0 -> 0 1;  8 0 0 0 -> 22;  255 0 0 0 -> 22
+        0 7 0 0 -> 0 1;  0 8 0 0 -> 22;  0 255 0 0 -> 22
+        0 0 7 0 -> 0 1;  0 0 8 0 -> 22;  0 0 255 0 -> 22
+        0 0 0 7 -> 0 1;  0 0 0 8 -> 22;  0 0 0 255 -> 22
+        8 8 8 8 -> 22
+        ",
+    );
+    run(
+        t,
+        Recipe::RankedSample,
+        b"
+        41 7 45 -> 0 9;  41 8 45 -> 22;  42 7 45 -> 0 9;  42 8 45 -> 22
+        43 7 45 -> 0 9;  43 8 45 -> 22;  44 7 45 -> 0 9;  44 8 45 -> 22
+        44 0 45 -> 0 9;  44 1 45 -> 0 9
+        37 8 45 -> 9;  40 3 45 -> 9
+        ",
+    )
+}
+
 // Check 10. N, names, terms "some", terms "all".
 pub fn candidates() -> Tally {
     run(
@@ -282,12 +429,22 @@ pub fn candidates() -> Tally {
 
 // Each fault alone, then with the next; 0 is none.
 pub fn order() -> Tally {
-    run(
+    let t = run(
         begin(),
         Recipe::Faults,
         b"
         0 0 -> 0 16384;  1 0 -> 1;  2 0 -> 2;  3 0 -> 3;  4 0 -> 4;  5 0 -> 5;  6 0 -> 6;  7 0 -> 7;  8 0 -> 8;  9 0 -> 9;  10 0 -> 10
         1 2 -> 1;  2 3 -> 2;  3 4 -> 3;  4 5 -> 4;  5 6 -> 5;  6 7 -> 6;  7 8 -> 7;  8 9 -> 8;  9 10 -> 9
+        ",
+    );
+    // in edition 2, 22 comes between 9 and 10
+    run(
+        t,
+        Recipe::RankedFaults,
+        b"
+        0 0 -> 0 16384;  1 0 -> 1;  2 0 -> 2;  3 0 -> 3;  4 0 -> 4;  5 0 -> 5;  6 0 -> 6;  7 0 -> 7;  8 0 -> 8;  9 0 -> 9;  22 0 -> 22;  10 0 -> 10
+        1 2 -> 1;  2 3 -> 2;  3 4 -> 3;  4 5 -> 4;  5 6 -> 5;  6 7 -> 6;  7 8 -> 7;  8 9 -> 8;  9 22 -> 9;  22 10 -> 22
+        5 22 -> 5;  6 22 -> 6;  7 22 -> 7;  8 22 -> 8;  9 10 -> 9
         ",
     )
 }

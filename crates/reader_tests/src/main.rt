@@ -27,6 +27,7 @@ fn bodies(mut total: Tally) -> Tally {
     total = close(total, b"rules", cases::rules());
     total = close(total, b"memberships", cases::memberships());
     total = close(total, b"links", cases::links());
+    total = close(total, b"pairs", cases::pairs());
     total = close(total, b"candidates", cases::candidates());
     total = close(total, b"order", cases::order());
     total

@@ -21,12 +21,22 @@ fn two(b: &[u8], at: usize) -> usize
     wide(byte(b, at)) * 256 + wide(byte(b, at + 1))
 }
 
+// The pairs of edition 2 are the stretch that the fifth entry names; edition 1 has none, at the end.
+fn pairs_named(b: &[u8], s: Sections) -> bool {
+    if byte(b, 0) == 2 {
+        s.pairs == two(b, 18)
+    } else {
+        s.pairs == s.end
+    }
+}
+
 // Are the sections the stretches that the entries name, up to the end of the book?
 fn named(b: &[u8], s: Sections) -> bool {
     s.terms == two(b, 2)
         && s.rules == two(b, 6)
         && s.memberships == two(b, 10)
         && s.links == two(b, 14)
+        && pairs_named(b, s)
         && s.end == b.len()
 }
 
@@ -36,7 +46,7 @@ fn steps(b: &[u8], s: Sections) -> bool {
 
 fn after_refusal(b: &[u8], number: u8) -> Answer {
     match counter::count(b) {
-        Counted::Refused(n) => refused(if n == number && n < 10 { n } else { APART }),
+        Counted::Refused(n) => refused(if n == number && n != 10 { n } else { APART }),
         Counted::Candidates(_) => refused(APART),
     }
 }

@@ -28,6 +28,11 @@ pub enum Recipe {
     Link,
     Places,
     Faults,
+    RankedSized,
+    RankedEmpty,
+    RankedSample,
+    Pairs,
+    RankedFaults,
 }
 
 // How many numbers of a row say what the book is. The expected answer follows: a number, and for 0 the candidates.
@@ -44,6 +49,11 @@ fn columns(recipe: Recipe) -> usize
         Recipe::Link => 5,
         Recipe::Places => 4,
         Recipe::Faults => 2,
+        Recipe::RankedSized => 6,
+        Recipe::RankedEmpty => 3,
+        Recipe::RankedSample => 3,
+        Recipe::Pairs => 4,
+        Recipe::RankedFaults => 2,
     }
 }
 
@@ -129,6 +139,48 @@ fn places(b: &mut [u8], steps: u8, names: u8, some: u8, all: u8) -> usize {
     books::terms(b, at, all, 5, 7, 0)
 }
 
+// Edition 2: as `sized`, and so many pairs, of zeros too.
+fn ranked_sized(
+    b: &mut [u8],
+    terms: u8,
+    rules: u8,
+    memberships: u8,
+    links: u8,
+    pairs: u8,
+    length: usize,
+) -> usize {
+    let at = books::ranked_head(b, 1, terms, rules, memberships, links, pairs);
+    books::terms(b, at, terms, 6, 0, 0);
+    length
+}
+
+// Edition 2: no records, one byte of the head changed. N is 1.
+fn ranked_empty(b: &mut [u8], at: u8, x: u8, length: usize) -> usize {
+    books::ranked_head(b, 1, 0, 0, 0, 0, 0);
+    set(b, at as usize, x);
+    length
+}
+
+// Edition 2: the sample with the pairs 0 under 1 and 1 under 2, 45 bytes, one of them changed.
+fn ranked_sample(b: &mut [u8], at: u8, x: u8, length: usize) -> usize {
+    text::write(
+        b,
+        b"
+        02 02  00 16 00 03  00 1F 00 01  00 21 00 01  00 25 00 01  00 29 00 02
+        00 00 00 01 00 00 00 05 00  00 01  00 00 00 01  00 00 01 01  00 01 01 02
+        ",
+    );
+    set(b, at as usize, x);
+    length
+}
+
+// Edition 2: no terms, two pairs, each lower and upper. N is 1.
+fn pairs(b: &mut [u8], lower: u8, upper: u8, next_lower: u8, next_upper: u8) -> usize {
+    let mut at = books::ranked_head(b, 1, 0, 0, 0, 0, 2);
+    at = books::pair(b, at, lower, upper);
+    books::pair(b, at, next_lower, next_upper)
+}
+
 // Writes the book and answers its length.
 fn make(b: &mut [u8], recipe: Recipe, r: Row) -> usize {
     let v = small(r, 0);
@@ -146,6 +198,11 @@ fn make(b: &mut [u8], recipe: Recipe, r: Row) -> usize {
         Recipe::Link => link(b, v, w, x, y, z),
         Recipe::Places => places(b, v, w, x, y),
         Recipe::Faults => faults::make(b, v, w),
+        Recipe::RankedSized => ranked_sized(b, v, w, x, y, z, cell(r, 5)),
+        Recipe::RankedEmpty => ranked_empty(b, v, w, cell(r, 2)),
+        Recipe::RankedSample => ranked_sample(b, v, w, cell(r, 2)),
+        Recipe::Pairs => pairs(b, v, w, x, y),
+        Recipe::RankedFaults => faults::make_ranked(b, v, w),
     }
 }
 

@@ -1,4 +1,4 @@
-// Cases written by hand from document 01.
+// Cases written by hand from documents 01 and 02.
 use crate::runs::Recipe;
 use crate::runs::run;
 use crate::runs::written;
@@ -79,12 +79,13 @@ pub fn order() -> Tally {
     // 2 and 13
     t = written(
         t,
-        b"02 02  00 12 00 01  00 15 00 00  00 15 00 00  00 15 00 00  00 00 00",
+        b"03 02  00 12 00 01  00 15 00 00  00 15 00 00  00 15 00 00  00 00 00",
         b"00 02",
         0,
         2,
         b"",
     );
+    t = ranked_order(t);
     // 6 and 13
     written(
         t,
@@ -92,6 +93,37 @@ pub fn order() -> Tally {
         b"00 02",
         0,
         6,
+        b"",
+    )
+}
+
+// Faults of a book of edition 2, with 13.
+fn ranked_order(mut t: Tally) -> Tally {
+    // 1: edition 1 called 2, so that it has a byte too few
+    t = written(
+        t,
+        b"02 02  00 12 00 01  00 15 00 00  00 15 00 00  00 15 00 00  00 00 00",
+        b"00 02",
+        0,
+        1,
+        b"",
+    );
+    // 22: the upper role of the second pair is 8
+    t = written(
+        t,
+        b"02 02  00 16 00 00  00 16 00 00  00 16 00 00  00 16 00 01  00 1A 00 02  00 00 00 01  00 01 07 08",
+        b"00 02",
+        0,
+        22,
+        b"",
+    );
+    // 9 and 22: the link claim's role is 8 too
+    written(
+        t,
+        b"02 02  00 16 00 00  00 16 00 00  00 16 00 00  00 16 00 01  00 1A 00 02  08 00 00 01  00 01 07 08",
+        b"00 02",
+        0,
+        9,
         b"",
     )
 }
@@ -158,6 +190,76 @@ pub fn verdicts() -> Tally {
     )
 }
 
+// A book of edition 2, N 2: name 0 not greater than name 1; individual 0 is at least 1 in name 0, and linked to itself by r0 at least 1. No claim
+// or term uses r1.
+fn ranked_verdicts(mut t: Tally) -> Tally {
+    // r0 under r1: the upper link as great or greater; the lower greater at one place alone, at two (the lowest first element, then the lowest
+    // second one), everywhere; and where something else is broken too: a rule comes first, claims come later
+    t = run(
+        t,
+        Recipe::Ranked,
+        b"
+        02 02  00 16 00 02  00 1C 00 01  00 1E 00 01  00 22 00 01  00 26 00 01
+        00 00 00 00 01 00  00 01  00 00 00 01  00 00 00 01  00 01
+        ",
+        b"01 02  02 02 02 01  00 0C 00 10 00 18",
+        b"",
+        b"
+        1 1 0 0  1 0 2 0  1 0 2 0 -> 0 0 0 0;  1 1 0 0  1 0 0 0  2 2 2 2 -> 0 0 0 0;  1 1 0 0  2 2 2 2  2 2 2 2 -> 0 0 0 0
+        1 1 0 0  1 0 0 0  0 2 2 2 -> 5 0 0 0;  1 1 0 0  1 1 0 0  1 0 2 2 -> 5 0 0 1
+        1 1 0 0  1 0 2 0  1 2 1 2 -> 5 0 1 0;  1 1 0 0  1 0 0 2  1 2 2 1 -> 5 0 1 1
+        1 1 0 0  1 1 1 0  1 0 0 0 -> 5 0 0 1;  1 1 0 0  1 0 1 1  1 0 0 0 -> 5 0 1 0;  1 1 0 0  2 2 2 2  1 1 1 1 -> 5 0 0 0
+        1 1 1 0  1 0 0 0  0 0 0 0 -> 1 0 1 0;  1 0 0 0  1 0 0 1  1 0 0 0 -> 1 0 0 0;  1 1 1 0  1 0 0 0  1 0 0 0 -> 1 0 1 0
+        0 0 0 0  1 0 1 0  1 0 0 0 -> 5 0 1 0;  0 0 0 0  1 0 1 0  1 0 1 0 -> 2 0 0 0
+        1 1 0 0  0 0 0 1  0 0 0 0 -> 5 0 1 1;  1 1 0 0  0 0 0 1  0 0 0 1 -> 3 0 0 0;  1 1 0 0  0 0 0 0  2 2 2 2 -> 3 0 0 0
+        0 0 1 0  0 0 0 1  0 0 0 0 -> 1 0 1 0;  0 0 0 0  0 0 0 1  0 0 0 0 -> 5 0 1 1;  0 0 0 0  0 0 0 0  0 0 0 0 -> 2 0 0 0
+        ",
+    );
+    // r1 under itself, which nothing breaks; r0 under r1, r1 under r0, so that their links are equal; r0 under r1 again, which is never the first.
+    // Where two pairs are broken, the first is named, at whatever elements
+    run(
+        t,
+        Recipe::Ranked,
+        b"
+        02 02  00 16 00 02  00 1C 00 01  00 1E 00 01  00 22 00 01  00 26 00 04
+        00 00 00 00 01 00  00 01  00 00 00 01  00 00 00 01  01 01 00 01 01 00 00 01
+        ",
+        b"01 02  02 02 02 01  00 0C 00 10 00 18",
+        b"",
+        b"
+        1 1 0 0  1 0 2 0  1 0 2 0 -> 0 0 0 0;  1 1 0 0  1 0 0 1  1 0 0 0 -> 5 1 1 1;  1 1 0 0  1 0 0 0  1 1 0 0 -> 5 2 0 1
+        1 1 0 0  1 0 0 1  2 0 0 0 -> 5 1 1 1;  1 1 0 0  2 0 0 0  1 0 0 2 -> 5 1 0 0;  1 1 0 0  1 0 1 1  1 2 2 2 -> 5 2 0 1
+        ",
+    )
+}
+
+// Sheets of one element for a book of edition 2 without terms, claims or rules, whose one pair is r0 under r5, then r5 under r0: R is 6 either way,
+// and a sheet with fewer or more roles is refused 13, as is one whose byte 0 is 2. Without pairs R is 0.
+fn counted_roles(mut t: Tally) -> Tally {
+    let up = b"02 02  00 16 00 00  00 16 00 00  00 16 00 00  00 16 00 00  00 16 00 01  00 05";
+    let down = b"02 02  00 16 00 00  00 16 00 00  00 16 00 00  00 16 00 00  00 16 00 01  05 00";
+    let none = b"02 02  00 16 00 00  00 16 00 00  00 16 00 00  00 16 00 00  00 16 00 00";
+    let six = b"01 02  01 00 06 00  00 0C 00 0C 00 12  01 01 01 01 01 01";
+    let five = b"01 02  01 00 05 00  00 0C 00 0C 00 11  01 01 01 01 01";
+    let seven = b"01 02  01 00 07 00  00 0C 00 0C 00 13  01 01 01 01 01 01 01";
+    let zero = b"01 02  01 00 00 00  00 0C 00 0C 00 0C";
+    let second = b"02 02  01 00 06 00  00 0C 00 0C 00 12  01 01 01 01 01 01";
+    t = written(t, up, six, 0, 0, b"");
+    t = written(t, up, five, 0, 13, b"");
+    t = written(t, up, seven, 0, 13, b"");
+    t = written(t, up, zero, 0, 13, b"");
+    t = written(t, up, second, 0, 13, b"");
+    t = written(t, down, six, 0, 0, b"");
+    t = written(t, down, five, 0, 13, b"");
+    t = written(t, down, zero, 0, 13, b"");
+    t = written(t, none, six, 0, 13, b"");
+    written(t, none, zero, 0, 0, b"")
+}
+
+pub fn pairs() -> Tally {
+    counted_roles(ranked_verdicts(begin()))
+}
+
 // N 4: name 0, "all r0" of it; then name 0, not, and, or, top, bottom; then five names of N 8, and a fault of the book.
 pub fn grades() -> Tally {
     let mut t = run(
@@ -210,6 +312,138 @@ pub fn grades() -> Tally {
     )
 }
 
+// A book of edition 2, N 4: name 0, "all r0", "all r1" of it, and pairs. A candidate is the name's grade, 5 times that of "all r0" and 25 times
+// that of "all r1". Where the second has the name graded 0, "all" graded g bounds its role by 4 - g. So from 80 to 0 r0 is bounded by 3 and r1 by 1,
+// from 40 to 0 r0 by 1 and r1 by 3. Where the name is graded 2, 80 leaves r0 alone and bounds r1 by 1.
+fn ranked_links(mut t: Tally) -> Tally {
+    // no pairs; r0 under itself, twice
+    let unranked = b"
+        0 80 0 -> 0 3;  1 80 0 -> 0 1;  2 80 0 -> 0 4;  0 40 0 -> 0 1;  1 40 0 -> 0 3;  0 80 2 -> 0 4;  1 80 2 -> 0 1
+        ";
+    t = links_of(
+        t,
+        b"02 04  00 16 00 03  00 1F 00 00  00 1F 00 00  00 1F 00 00  00 1F 00 00  00 00 00 05 00 00 05 01 00",
+        unranked,
+    );
+    t = links_of(
+        t,
+        b"02 04  00 16 00 03  00 1F 00 00  00 1F 00 00  00 1F 00 00  00 1F 00 02  00 00 00 05 00 00 05 01 00  00 00 00 00",
+        unranked,
+    );
+    // r0 under r1: r0 has the bound of r1 too, and r1 not that of r0; the numbers that are refused stay so
+    t = links_of(
+        t,
+        b"02 04  00 16 00 03  00 1F 00 00  00 1F 00 00  00 1F 00 00  00 1F 00 01  00 00 00 05 00 00 05 01 00  00 01",
+        b"
+        0 80 0 -> 0 1;  1 80 0 -> 0 1;  2 80 0 -> 0 4;  0 40 0 -> 0 1;  1 40 0 -> 0 3;  0 80 2 -> 0 1;  1 80 2 -> 0 1
+        0 125 0 -> 20;  0 0 125 -> 20;  8 124 124 -> 21;  8 125 0 -> 20
+        ",
+    );
+    // r0 under r1 under r2 under r0: all have the least bound of the three; r3 has none
+    t = links_of(
+        t,
+        b"02 04  00 16 00 03  00 1F 00 00  00 1F 00 00  00 1F 00 00  00 1F 00 03  00 00 00 05 00 00 05 01 00  00 01 01 02 02 00",
+        b"
+        0 80 0 -> 0 1;  1 80 0 -> 0 1;  2 80 0 -> 0 1;  3 80 0 -> 0 4;  0 40 0 -> 0 1;  1 40 0 -> 0 1;  2 40 0 -> 0 1;  1 80 2 -> 0 1;  2 80 2 -> 0 1
+        ",
+    );
+    // r5 under r1, r0 under r5: r0 has the bound of r1 through r5, which no term uses
+    t = links_of(
+        t,
+        b"02 04  00 16 00 03  00 1F 00 00  00 1F 00 00  00 1F 00 00  00 1F 00 02  00 00 00 05 00 00 05 01 00  05 01 00 05",
+        b"
+        0 80 0 -> 0 1;  1 80 0 -> 0 1;  5 80 0 -> 0 1;  2 80 0 -> 0 4;  0 40 0 -> 0 1;  1 40 0 -> 0 3;  5 40 0 -> 0 3;  0 80 2 -> 0 1
+        ",
+    );
+    // r2 under r0 and under r1: the least of two bounds above; r0 and r1 have their own
+    links_of(
+        t,
+        b"02 04  00 16 00 03  00 1F 00 00  00 1F 00 00  00 1F 00 00  00 1F 00 02  00 00 00 05 00 00 05 01 00  02 00 02 01",
+        b"
+        2 80 0 -> 0 1;  0 80 0 -> 0 3;  1 80 0 -> 0 1;  2 40 0 -> 0 1;  0 40 0 -> 0 1;  1 40 0 -> 0 3
+        ",
+    )
+}
+
+fn links_of(t: Tally, book: &[u8], table: &[u8]) -> Tally {
+    run(t, Recipe::Link, book, b"", b"", table)
+}
+
+// N 4: name 0, "all r0" of it: graded 3 with the name graded 1 in the second, its link is 1. All eight roles in a row, each under the one below its
+// number, so that all have that bound; in either order of the pairs. Then the row upside down: r0 is under all others, which have no bound.
+// Last "some r1": graded 1 with the name graded 3 it bounds r1 by 1, and r0 under r1; and not r0 above r1.
+fn long_links(mut t: Tally) -> Tally {
+    let bounded = b"
+        0 15 1 -> 0 1;  1 15 1 -> 0 1;  2 15 1 -> 0 1;  3 15 1 -> 0 1;  4 15 1 -> 0 1;  5 15 1 -> 0 1;  6 15 1 -> 0 1;  7 15 1 -> 0 1
+        7 15 3 -> 0 4;  7 20 3 -> 0 0
+        ";
+    t = links_of(
+        t,
+        b"
+        02 04  00 16 00 02  00 1C 00 00  00 1C 00 00  00 1C 00 00  00 1C 00 07
+        00 00 00 05 00 00  01 00 02 01 03 02 04 03 05 04 06 05 07 06
+        ",
+        bounded,
+    );
+    t = links_of(
+        t,
+        b"
+        02 04  00 16 00 02  00 1C 00 00  00 1C 00 00  00 1C 00 00  00 1C 00 07
+        00 00 00 05 00 00  07 06 06 05 05 04 04 03 03 02 02 01 01 00
+        ",
+        bounded,
+    );
+    t = links_of(
+        t,
+        b"
+        02 04  00 16 00 02  00 1C 00 00  00 1C 00 00  00 1C 00 00  00 1C 00 07
+        00 00 00 05 00 00  00 01 01 02 02 03 03 04 04 05 05 06 06 07
+        ",
+        b"
+        0 15 1 -> 0 1;  1 15 1 -> 0 4;  7 15 1 -> 0 4
+        ",
+    );
+    t = links_of(
+        t,
+        b"02 04  00 16 00 02  00 1C 00 00  00 1C 00 00  00 1C 00 00  00 1C 00 01  00 00 00 04 01 00  00 01",
+        b"
+        0 5 3 -> 0 1;  1 5 3 -> 0 1;  2 5 3 -> 0 4;  0 10 2 -> 0 4
+        ",
+    );
+    t = links_of(
+        t,
+        b"02 04  00 16 00 02  00 1C 00 00  00 1C 00 00  00 1C 00 00  00 1C 00 01  00 00 00 04 01 00  01 00",
+        b"
+        0 5 3 -> 0 4;  1 5 3 -> 0 1
+        ",
+    );
+    refused_pairs(t)
+}
+
+// A pair names role 8: refused 22 before the questions of a link or a grade. With five names of N 8 too: 22 comes before 10.
+fn refused_pairs(mut t: Tally) -> Tally {
+    t = links_of(
+        t,
+        b"02 04  00 16 00 01  00 19 00 00  00 19 00 00  00 19 00 00  00 19 00 01  00 00 00  08 01",
+        b"
+        0 0 0 -> 22;  8 99 99 -> 22
+        ",
+    );
+    run(
+        t,
+        Recipe::Grade,
+        b"
+        02 08  00 16 00 05  00 25 00 00  00 25 00 00  00 25 00 00  00 25 00 01
+        00 00 00  00 01 00  00 02 00  00 03 00  00 04 00  01 08
+        ",
+        b"",
+        b"",
+        b"
+        0 0 -> 22;  99999 5 -> 22
+        ",
+    )
+}
+
 // N 4: name 0, then "all r0" or "some r0" of it. A candidate is the name's grade and five times the other's.
 pub fn links() -> Tally {
     let t = run(
@@ -233,4 +467,8 @@ pub fn links() -> Tally {
         0 5 3 -> 0 1;  0 10 2 -> 0 4;  0 0 1 -> 0 0;  1 0 1 -> 0 4
         ",
     )
+}
+
+pub fn links_under_pairs() -> Tally {
+    long_links(ranked_links(begin()))
 }

@@ -14,7 +14,9 @@ fn main() {
     total = close(total, b"order", cases::order());
     total = close(total, b"grids", cases::grids());
     total = close(total, b"verdicts", cases::verdicts());
+    total = close(total, b"pairs", cases::pairs());
     total = close(total, b"grades", cases::grades());
     total = close(total, b"links", cases::links());
+    total = close(total, b"links under pairs", cases::links_under_pairs());
     tally::print(b"total", total);
 }

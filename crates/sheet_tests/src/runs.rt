@@ -20,6 +20,7 @@ const NO_CALL: u8 = 98;
 pub enum Recipe {
     Change,
     Entries,
+    Ranked,
     Grade,
     Link,
 }
@@ -29,6 +30,7 @@ fn columns(recipe: Recipe, r: Row) -> usize {
     match recipe {
         Recipe::Change => 5,
         Recipe::Entries => 13,
+        Recipe::Ranked => 16,
         Recipe::Grade => if cell(r, 2) == 0 { 4 } else { 3 },
         Recipe::Link => if cell(r, 3) == 0 { 5 } else { 4 },
     }
@@ -113,14 +115,26 @@ fn entries(t: Tally, book: &[u8], sheet: &[u8], r: Row) -> Tally {
     text::write(&mut s, sheet);
     set_all(&mut s, 12, r, 10);
     set_all(&mut wanted, 0, r, 4);
-    let expected = said(small(r, 10), cell(r, 11), cell(r, 12));
+    let expected = said(small(r, 10), cell(r, 11), cell(r, 12), 0);
     work(t, book, &s[0..22], 64, expected, &wanted)
+}
+
+// Four grades of names, four links of role 0, four of role 1 -> what is broken, which, at which element, at which second one. The individual sits
+// at element 0.
+fn ranked(t: Tally, book: &[u8], sheet: &[u8], r: Row) -> Tally {
+    let mut s = [0u8; 64];
+    let mut wanted = [0xA5u8; 64];
+    text::write(&mut s, sheet);
+    set_all(&mut s, 12, r, 12);
+    set_all(&mut wanted, 0, r, 4);
+    let expected = said(small(r, 12), cell(r, 13), cell(r, 14), cell(r, 15));
+    work(t, book, &s[0..25], 64, expected, &wanted)
 }
 
 // A grade when the number is 0.
 fn graded(number: u8, grade: usize) -> Answer {
     if number == 0 {
-        said(4, grade, 0)
+        said(4, grade, 0, 0)
     } else {
         refused(number)
     }
@@ -140,6 +154,7 @@ fn case(t: Tally, recipe: Recipe, book: &[u8], sheet: &[u8], grid: &[u8], r: Row
     match recipe {
         Recipe::Change => change(t, book, sheet, grid, r),
         Recipe::Entries => entries(t, book, sheet, r),
+        Recipe::Ranked => ranked(t, book, sheet, r),
         // candidate, term -> number, grade
         Recipe::Grade => {
             let a = of_grade(checker::grade(book, c, d));

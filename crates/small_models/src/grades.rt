@@ -1,7 +1,8 @@
-// Working out the grades of all terms on an interpretation, by the table of document 01. There is one role. An interpretation of `n` elements is
-// n rows of the names' grades, then n rows of n links; the grid is n rows of the terms' grades.
+// Working out the grades of all terms on an interpretation, by the table of document 01. An interpretation of `n` elements is n rows of the names'
+// grades, then for each role n rows of n links; the grid is n rows of the terms' grades.
 use crate::shape::Shape;
 use crate::shape::cell;
+use crate::shape::is_quantified;
 use crate::shape::term;
 use reports::numbers::larger;
 use reports::numbers::less;
@@ -9,6 +10,7 @@ use reports::numbers::smaller;
 use reports::numbers::times;
 use reports::text::byte;
 use reports::text::set;
+use std::num::wrapping_add_usize;
 
 // Not, and, or, top, bottom.
 pub fn joined(steps: u8, kind: usize, x: u8, y: u8) -> u8 {
@@ -21,8 +23,8 @@ pub fn joined(steps: u8, kind: usize, x: u8, y: u8) -> u8 {
     }
 }
 
-pub fn link_at(s: Shape, n: usize, e: usize, f: usize) -> usize {
-    cell(n, s.names, cell(e, n, f))
+pub fn link_at(s: Shape, n: usize, role: usize, e: usize, f: usize) -> usize {
+    cell(n, s.names, cell(cell(role, n, e), n, f))
 }
 
 // What the elements before gave, and one more, by its link and the child's grade there.
@@ -34,10 +36,19 @@ fn further(steps: u8, some: bool, before: u8, link: u8, child: u8) -> u8 {
     }
 }
 
-fn quantified(s: Shape, n: usize, w: &[u8], grid: &[u8], some: bool, child: usize, e: usize) -> u8 {
+// `row` is where the links of its role from the element stand.
+fn quantified(
+    s: Shape,
+    n: usize,
+    w: &[u8],
+    grid: &[u8],
+    some: bool,
+    child: usize,
+    row: usize,
+) -> u8 {
     let mut g = if some { 0 } else { s.steps };
     for f in 0..n {
-        let link = byte(w, link_at(s, n, e, f));
+        let link = byte(w, wrapping_add_usize(row, f));
         g = further(s.steps, some, g, link, byte(grid, cell(f, s.terms, child)));
     }
     g
@@ -51,8 +62,8 @@ fn grade(b: &[u8], s: Shape, n: usize, w: &[u8], grid: &[u8], i: usize, e: usize
     if kind == 0 {
         return byte(w, cell(e, s.names, x));
     }
-    if kind == 4 || kind == 5 {
-        return quantified(s, n, w, grid, kind == 4, y, e);
+    if is_quantified(kind) {
+        return quantified(s, n, w, grid, kind == 4, y, link_at(s, n, x, e, 0));
     }
     let row = times(e, s.terms);
     joined(

@@ -1,5 +1,5 @@
 // A second decider. It tries the small interpretations of small books, and holds the decider to them; and it works out the interpretation of
-// the types that the decider lists. It is written from document 01 alone.
+// the types that the decider lists. It is written from documents 01 and 02 alone.
 mod grades;
 mod listed;
 mod meets;
@@ -18,8 +18,10 @@ use reports::text;
 use std::num::wrapping_add_u64;
 use worlds::Seen;
 
-// How many books are drawn from a template.
+// How many books are drawn from a template, and how many from one whose books have many interpretations.
 const BOOKS: u64 = 100;
+
+const FEW: u64 = 12;
 
 // The state of the generator, what was seen, how many books had each outcome, and how many were tried and differ.
 struct Sums {
@@ -31,9 +33,9 @@ struct Sums {
     books: Tally,
 }
 
-fn begin() -> Sums {
+fn begin(state: u64) -> Sums {
     Sums {
-        state: random::SEED,
+        state,
         seen: worlds::none(),
         ones: 0,
         twos: 0,
@@ -62,13 +64,18 @@ fn count(mut sums: Sums, outcome: u8) -> Sums {
 
 fn decided(
     mut sums: Sums,
-    b: &[u8],
+    book: &[u8],
     outcome: u8,
     survivors: usize,
     marks: &[u8],
     placement: &[u8],
 ) -> Sums {
-    let s = shape::shape_of(b);
+    let from = shape::head(book);
+    if book.len() < from {
+        return judged(sums, false);
+    }
+    let b = &book[from..];
+    let s = shape::shape_of(book, b);
     let mut seen = sums.seen;
     seen.right = true;
     seen = worlds::all(seen, b, s, outcome, marks);
@@ -109,23 +116,29 @@ fn drawn_book(mut sums: Sums, template: &[u8]) -> Sums {
     first(sums, &b, length)
 }
 
-fn drawn_books(mut sums: Sums, template: &[u8]) -> Sums {
-    for _ in 0..BOOKS {
+fn drawn_books(mut sums: Sums, template: &[u8], count: u64) -> Sums {
+    for _ in 0..count {
         sums = drawn_book(sums, template);
     }
     sums
 }
 
-// A line of the input: a remark after a `#`, a template after the word `draw`, or a book; both in hexadecimal.
+// What was counted is told, and counting begins anew, with the books drawn from where they were.
+fn next_part(sums: Sums) -> Sums {
+    report(sums);
+    begin(sums.state)
+}
+
+// A line of the input: a remark after a `#`, a template after the word `draw` or `few`, the end of a part after a `=`, or a book; books and templates
+// are in hexadecimal.
 fn line(sums: Sums, line: &[u8]) -> Sums {
     let sort = text::byte(line, 0);
-    if sort == b'#' {
-        return sums;
-    }
-    if sort == b'd' {
-        drawn_books(sums, line)
-    } else {
-        written_book(sums, line)
+    match sort {
+        b'#' => sums,
+        b'=' => next_part(sums),
+        b'd' => drawn_books(sums, line, BOOKS),
+        b'f' => drawn_books(sums, line, FEW),
+        _ => written_book(sums, line),
     }
 }
 
@@ -147,6 +160,7 @@ fn report(sums: Sums) {
     say_count(b", 2:", sums.twos);
     say_count(b", 3:", sums.threes);
     say_count(b"\ninterpretations", seen.tried);
+    say_count(b", that meet the pairs", seen.ranked);
     say_count(b", models of the rules", seen.models);
     say_count(b", of the claims too", seen.met);
     say(b"\n");
@@ -157,5 +171,5 @@ fn main() {
     let length = io::read_full(STDIN_FILENO, &mut input);
     say_count(b"seed", random::SEED);
     say(b"\n");
-    report(lines(begin(), &input[..length]));
+    report(lines(begin(random::SEED), &input[..length]));
 }

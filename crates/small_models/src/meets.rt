@@ -1,13 +1,16 @@
-// Are the rules and the claims met on an interpretation, of which the grid is worked out? `seats` has the element of each individual.
+// Are the rules, pairs and claims met on an interpretation, of which the grid is worked out? `seats` has the element of each individual.
 use crate::grades::link_at;
 use crate::shape::Shape;
 use crate::shape::cell;
 use crate::shape::link_claim;
 use crate::shape::membership;
 use crate::shape::number;
+use crate::shape::pair;
 use crate::shape::rule;
 use reports::numbers::times;
+use reports::text::byte;
 use reports::text::set;
+use std::num::wrapping_add_usize;
 
 fn rule_met(s: Shape, n: usize, grid: &[u8], left: usize, right: usize) -> bool {
     for e in 0..n {
@@ -21,6 +24,28 @@ fn rule_met(s: Shape, n: usize, grid: &[u8], left: usize, right: usize) -> bool 
 pub fn rules_met(b: &[u8], s: Shape, n: usize, grid: &[u8]) -> bool {
     for i in 0..s.rules {
         if !rule_met(s, n, grid, rule(b, s, i, 0), rule(b, s, i, 1)) {
+            return false;
+        }
+    }
+    true
+}
+
+// Is no link of `lower` greater than that of `upper`? The links of a role, from all elements to all, stand one after another.
+fn pair_met(s: Shape, n: usize, w: &[u8], lower: usize, upper: usize) -> bool {
+    let low = link_at(s, n, lower, 0, 0);
+    let high = link_at(s, n, upper, 0, 0);
+    for i in 0..times(n, n) {
+        if byte(w, wrapping_add_usize(high, i)) < byte(w, wrapping_add_usize(low, i)) {
+            return false;
+        }
+    }
+    true
+}
+
+// Each pair by itself, with no thought of what follows from several.
+pub fn pairs_met(b: &[u8], s: Shape, n: usize, w: &[u8]) -> bool {
+    for i in 0..s.pairs {
+        if !pair_met(s, n, w, pair(b, s, i, 0), pair(b, s, i, 1)) {
             return false;
         }
     }
@@ -41,7 +66,7 @@ fn membership_met(b: &[u8], s: Shape, grid: &[u8], seats: &[u8], i: usize) -> bo
 fn link_met(b: &[u8], s: Shape, n: usize, w: &[u8], seats: &[u8], i: usize) -> bool {
     let e = number(seats, link_claim(b, s, i, 1));
     let f = number(seats, link_claim(b, s, i, 2));
-    link_claim(b, s, i, 3) <= number(w, link_at(s, n, e, f))
+    link_claim(b, s, i, 3) <= number(w, link_at(s, n, link_claim(b, s, i, 0), e, f))
 }
 
 fn memberships_met(b: &[u8], s: Shape, grid: &[u8], seats: &[u8]) -> bool {

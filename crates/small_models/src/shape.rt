@@ -1,18 +1,20 @@
-// A small book, read as document 01 lays it out: how much of each there is, and its records. A byte past the end is 0.
+// A small book, read as documents 01 and 02 lay it out: how much of each there is, and its records. A byte past the end is 0.
 ghost use Prim.Native.Nat.{_<_};
 use reports::numbers::times;
 use reports::numbers::wide;
 use reports::text::byte;
 use std::num::wrapping_add_usize;
 
-// N and the counts of terms, rules, membership claims, link claims, names and individuals.
+// N and the counts of terms, rules, membership claims, link claims, pairs, names, roles and individuals.
 pub struct Shape {
     pub steps: u8,
     pub terms: usize,
     pub rules: usize,
     pub memberships: usize,
     pub links: usize,
+    pub pairs: usize,
     pub names: usize,
+    pub roles: usize,
     pub individuals: usize,
 }
 
@@ -28,25 +30,30 @@ pub fn cell(row: usize, width: usize, column: usize) -> usize {
     wrapping_add_usize(times(row, width), column)
 }
 
-// Part `k` of record `i`: of a term (kind, a, b), of a rule (left, right), of a membership claim (individual, term, sense, grade), of a link
-// claim (role, from, to, grade).
+// How long the head of a book is. What comes after it are the bodies.
+pub fn head(book: &[u8]) -> usize {
+    if byte(book, 0) == 2 { 22 } else { 18 }
+}
+
+// Part `k` of record `i` in the bodies: of a term (kind, a, b), of a rule (left, right), of a membership claim (individual, term, sense, grade),
+// of a link claim (role, from, to, grade), of a pair (lower, upper).
 pub fn term(b: &[u8], i: usize, k: usize) -> usize
     ensures { λ r. ⌜ r < 256 ⌝ }
 {
-    number(b, 18 + 3 * (i % 256) + k % 4)
+    number(b, 3 * (i % 256) + k % 4)
 }
 
 pub fn rule(b: &[u8], s: Shape, i: usize, k: usize) -> usize
     ensures { λ r. ⌜ r < 256 ⌝ }
 {
-    number(b, 18 + 3 * (s.terms % 256) + 2 * (i % 256) + k % 4)
+    number(b, 3 * (s.terms % 256) + 2 * (i % 256) + k % 4)
 }
 
 pub fn membership(b: &[u8], s: Shape, i: usize, k: usize) -> usize
     ensures { λ r. ⌜ r < 256 ⌝ }
 {
     let before = 3 * (s.terms % 256) + 2 * (s.rules % 256);
-    number(b, 18 + before + 4 * (i % 256) + k % 4)
+    number(b, before + 4 * (i % 256) + k % 4)
 }
 
 pub fn link_claim(b: &[u8], s: Shape, i: usize, k: usize) -> usize
@@ -55,8 +62,20 @@ pub fn link_claim(b: &[u8], s: Shape, i: usize, k: usize) -> usize
     membership(b, s, s.memberships % 64 + i % 64, k)
 }
 
+pub fn pair(b: &[u8], s: Shape, i: usize, k: usize) -> usize
+    ensures { λ r. ⌜ r < 256 ⌝ }
+{
+    let before = 3 * (s.terms % 256) + 2 * (s.rules % 256);
+    let claims = 4 * (s.memberships % 256) + 4 * (s.links % 256);
+    number(b, before + claims + 2 * (i % 256) + k % 4)
+}
+
 fn most(x: usize, y: usize) -> usize {
     if x < y { y } else { x }
+}
+
+pub fn is_quantified(kind: usize) -> bool {
+    kind == 4 || kind == 5
 }
 
 // One more than the highest name number.
@@ -88,17 +107,54 @@ fn individuals_of_links(b: &[u8], s: Shape) -> usize {
     count
 }
 
-pub fn shape_of(b: &[u8]) -> Shape {
-    let terms = number(b, 5);
+// One more than the highest role of the quantified terms, of the link claims, of the pairs.
+fn roles_of_terms(b: &[u8], s: Shape) -> usize {
+    let mut count = 0;
+    for i in 0..s.terms {
+        if is_quantified(term(b, i, 0)) {
+            count = most(count, term(b, i, 1) + 1);
+        }
+    }
+    count
+}
+
+fn roles_of_links(b: &[u8], s: Shape) -> usize {
+    let mut count = 0;
+    for i in 0..s.links {
+        count = most(count, link_claim(b, s, i, 0) + 1);
+    }
+    count
+}
+
+fn roles_of_pairs(b: &[u8], s: Shape) -> usize {
+    let mut count = 0;
+    for i in 0..s.pairs {
+        count = most(count, pair(b, s, i, 0) + 1);
+        count = most(count, pair(b, s, i, 1) + 1);
+    }
+    count
+}
+
+// The shape of a book with the bodies `b`. Role 0 counts even if nothing uses it.
+pub fn shape_of(book: &[u8], b: &[u8]) -> Shape {
+    let terms = number(book, 5);
     let mut s = Shape {
-        steps: byte(b, 1),
+        steps: byte(book, 1),
         terms,
-        rules: number(b, 9),
-        memberships: number(b, 13),
-        links: number(b, 17),
+        rules: number(book, 9),
+        memberships: number(book, 13),
+        links: number(book, 17),
+        pairs: 0,
         names: names(b, terms),
+        roles: 1,
         individuals: 0,
     };
+    if byte(book, 0) == 2 {
+        s.pairs = number(book, 21);
+    }
+    let beyond_terms = most(roles_of_links(b, s), roles_of_pairs(b, s));
+    let roles = most(roles_of_terms(b, s), beyond_terms);
+    s.roles = most(1, roles);
     s.individuals = most(individuals_of_memberships(b, s), individuals_of_links(b, s));
     s
 }

@@ -3,6 +3,7 @@ ghost use Prim.Native.Nat.{_≤_};
 use crate::grades::joined;
 use crate::shape::Shape;
 use crate::shape::cell;
+use crate::shape::is_quantified;
 use crate::shape::term;
 use reports::numbers::times;
 use reports::numbers::wide;
@@ -11,7 +12,7 @@ use reports::text::set;
 use std::num::wrapping_add_usize;
 
 fn is_place(kind: usize) -> bool {
-    kind == 0 || kind == 4 || kind == 5
+    kind == 0 || is_quantified(kind)
 }
 
 // How many grades there are.

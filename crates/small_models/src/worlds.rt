@@ -9,13 +9,14 @@ use reports::text::byte;
 use reports::text::set;
 use std::num::wrapping_add_u64;
 
-// More interpretations of one size than this are not tried.
-const MOST: usize = 32768;
+// More interpretations of one size than this are not tried; up to it `times` counts them exactly.
+const MOST: usize = 65535;
 
-// How many interpretations were tried, how many met the rules, and how many of these the claims with some seating of the individuals;
-// `right` says that the decider agreed with each.
+// How many interpretations were tried, how many met the pairs, how many of these the rules, and how many of these the claims with some seating of
+// the individuals; `right` says that the decider agreed with each.
 pub struct Seen {
     pub tried: u64,
+    pub ranked: u64,
     pub models: u64,
     pub met: u64,
     pub right: bool,
@@ -24,6 +25,7 @@ pub struct Seen {
 pub fn none() -> Seen {
     Seen {
         tried: 0,
+        ranked: 0,
         models: 0,
         met: 0,
         right: true,
@@ -77,7 +79,7 @@ fn all_marked(b: &[u8], s: Shape, n: usize, grid: &[u8], marks: &[u8]) -> bool {
     true
 }
 
-// A model of the rules: its types are listed, the outcome is not 3, and it is 1 if the claims are met too.
+// A model of the pairs and rules: its types are listed, the outcome is not 3, and it is 1 if the claims are met too.
 fn model(mut seen: Seen, outcome: u8, marked: bool, met: bool) -> Seen {
     seen.models = wrapping_add_u64(seen.models, 1);
     let mut right = marked && (outcome == 1 || outcome == 2);
@@ -100,8 +102,12 @@ fn world(
     n: usize,
     w: &[u8],
 ) -> Seen {
-    let mut grid = [0u8; 32];
     seen.tried = wrapping_add_u64(seen.tried, 1);
+    if !meets::pairs_met(b, s, n, w) {
+        return seen;
+    }
+    seen.ranked = wrapping_add_u64(seen.ranked, 1);
+    let mut grid = [0u8; 32];
     grades::fill(b, s, n, w, &mut grid);
     if !meets::rules_met(b, s, n, &grid) {
         return seen;
@@ -109,6 +115,11 @@ fn world(
     let marked = all_marked(b, s, n, &grid, marks);
     let met = meets::first_seating(b, s, n, w, &grid) < meets::seatings(s, n);
     model(seen, outcome, marked, met)
+}
+
+// How many grades an interpretation of `n` elements has: names, and links of each role.
+fn digits(s: Shape, n: usize) -> usize {
+    cell(n, s.names, times(s.roles, times(n, n)))
 }
 
 fn worlds(
@@ -121,7 +132,7 @@ fn worlds(
     count: usize,
 ) -> Seen {
     let mut w = [0u8; 32];
-    let digits = cell(n, s.names, times(n, n));
+    let digits = digits(s, n);
     for _ in 0..count {
         seen = world(seen, b, s, outcome, marks, n, &w);
         advance(&mut w, digits, s.steps);
@@ -131,7 +142,7 @@ fn worlds(
 
 // Every interpretation of `n` elements, if they are few.
 fn sized(seen: Seen, b: &[u8], s: Shape, outcome: u8, marks: &[u8], n: usize) -> Seen {
-    let count = power(types::levels(s), cell(n, s.names, times(n, n)));
+    let count = power(types::levels(s), digits(s, n));
     if MOST < count {
         return seen;
     }

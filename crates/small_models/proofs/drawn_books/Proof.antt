@@ -1,4 +1,4 @@
--- `small_models::drawn_books` meets its contract. The counter of the loop stays within the number of books.
+-- `small_models::drawn_books` meets its contract. The counter of the loop stays within its bound.
 -- Assumes nothing.
 use borrow.Author.Needs.{needs}
 use Prim.Native.Nat.{_≤_, _-_}
@@ -6,10 +6,10 @@ use Rattle.small_models.proofs.drawn_books.Statement.{statement}
 use Rattle.small_models.proofs.drawn_books.Tie as tie
 
 abbrev Inv-loop : tie.InvT-loop
-Inv-loop sums₀ template counter₀ sums counter = counter ≤ 100
+Inv-loop sums₀ template count counter₀ sums counter = counter ≤ count
 
 abbrev μ-loop : tie.MeasureT-loop
-μ-loop sums₀ template counter₀ sums counter = 100 - counter
+μ-loop sums₀ template count counter₀ sums counter = count - counter
 
 loop-holds : tie.Need-loop-holds Inv-loop μ-loop
 loop-holds c = search needs

@@ -6,16 +6,16 @@ use Rattle.small_models.proofs.grades.quantified.Statement.{statement}
 use Rattle.small_models.proofs.grades.quantified.Tie as tie
 
 abbrev Inv-loop : tie.InvT-loop
-Inv-loop s n w grid some child e g₀ f₀ g f = f ≤ n
+Inv-loop s n w grid some child row g₀ f₀ g f = f ≤ n
 
 abbrev μ-loop : tie.MeasureT-loop
-μ-loop s n w grid some child e g₀ f₀ g f = n - f
+μ-loop s n w grid some child row g₀ f₀ g f = n - f
 
 loop-holds : tie.Need-loop-holds Inv-loop μ-loop
 loop-holds c = search needs
 
-link-at-requires : tie.Need-link-at-requires Inv-loop μ-loop
-link-at-requires c κs = search needs
+wrapping-add-usize-requires : tie.Need-wrapping-add-usize-requires Inv-loop μ-loop
+wrapping-add-usize-requires c κs = search needs
 
 byte-requires : tie.Need-byte-requires Inv-loop μ-loop
 byte-requires c κs = search needs
@@ -48,7 +48,7 @@ quantified-spec =
     Inv-loop
     μ-loop
     loop-holds
-    link-at-requires
+    wrapping-add-usize-requires
     byte-requires
     cell-requires
     byte-requires-2

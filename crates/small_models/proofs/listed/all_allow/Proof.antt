@@ -6,13 +6,22 @@ use Rattle.small_models.proofs.listed.all_allow.Statement.{statement}
 use Rattle.small_models.proofs.listed.all_allow.Tie as tie
 
 abbrev Inv-loop : tie.InvT-loop
-Inv-loop b s types c d r i₀ i-end i = i ≤ i-end
+Inv-loop b s types role c d r i₀ i-end i = i ≤ i-end
 
 abbrev μ-loop : tie.MeasureT-loop
-μ-loop b s types c d r i₀ i-end i = i-end - i
+μ-loop b s types role c d r i₀ i-end i = i-end - i
 
 loop-holds : tie.Need-loop-holds Inv-loop μ-loop
 loop-holds c = search needs
+
+term-requires : tie.Need-term-requires Inv-loop μ-loop
+term-requires c κs = search needs
+
+is-quantified-requires : tie.Need-is-quantified-requires Inv-loop μ-loop
+is-quantified-requires c κs = search needs
+
+term-requires-2 : tie.Need-term-requires-2 Inv-loop μ-loop
+term-requires-2 c κs = search needs
 
 allows-requires : tie.Need-allows-requires Inv-loop μ-loop
 allows-requires c κs = search needs
@@ -39,6 +48,9 @@ all-allow-spec =
     Inv-loop
     μ-loop
     loop-holds
+    term-requires
+    is-quantified-requires
+    term-requires-2
     allows-requires
     returns
     add-i

@@ -8,19 +8,19 @@ use Rattle.small_models.proofs.listed.fill_links.Statement.{statement}
 use Rattle.small_models.proofs.listed.fill_links.Tie as tie
 
 abbrev Inv-loop : tie.InvT-loop
-Inv-loop b s types n w₀ c₀ w c = (c ≤ n) × (length w ≡ length w₀)
+Inv-loop b s types n w₀ role₀ role-end w role = (role ≤ role-end) × (length w ≡ length w₀)
 
 abbrev μ-loop : tie.MeasureT-loop
-μ-loop b s types n w₀ c₀ w c = n - c
+μ-loop b s types n w₀ role₀ role-end w role = role-end - role
 
 loop-holds : tie.Need-loop-holds Inv-loop μ-loop
 loop-holds c = search needs
 
-fill-links-from-requires : tie.Need-fill-links-from-requires Inv-loop μ-loop
-fill-links-from-requires c κs = search needs
+fill-role-requires : tie.Need-fill-role-requires Inv-loop μ-loop
+fill-role-requires c κs = search needs
 
-add-c : tie.Need-add-c Inv-loop μ-loop
-add-c c = search needs
+add-role : tie.Need-add-role Inv-loop μ-loop
+add-role c = search needs
 
 loop-less : tie.Need-loop-less Inv-loop μ-loop
 loop-less c = search needs
@@ -41,8 +41,8 @@ fill-links-spec =
     Inv-loop
     μ-loop
     loop-holds
-    fill-links-from-requires
-    add-c
+    fill-role-requires
+    add-role
     loop-less
     loop-again
     same-length

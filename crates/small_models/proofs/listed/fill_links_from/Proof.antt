@@ -8,10 +8,10 @@ use Rattle.small_models.proofs.listed.fill_links_from.Statement.{statem
 use Rattle.small_models.proofs.listed.fill_links_from.Tie as tie
 
 abbrev Inv-loop : tie.InvT-loop
-Inv-loop b s types n w₀ c d₀ w d = (d ≤ n) × (length w ≡ length w₀)
+Inv-loop b s types n w₀ role c d₀ w d = (d ≤ n) × (length w ≡ length w₀)
 
 abbrev μ-loop : tie.MeasureT-loop
-μ-loop b s types n w₀ c d₀ w d = n - d
+μ-loop b s types n w₀ role c d₀ w d = n - d
 
 loop-holds : tie.Need-loop-holds Inv-loop μ-loop
 loop-holds c = search needs

@@ -6,10 +6,10 @@ use Rattle.small_models.proofs.listed.greatest.Statement.{statement}
 use Rattle.small_models.proofs.listed.greatest.Tie as tie
 
 abbrev Inv-loop : tie.InvT-loop
-Inv-loop b s types c d best₀ steps r₀ best r = r ≤ steps
+Inv-loop b s types role c d best₀ steps r₀ best r = r ≤ steps
 
 abbrev μ-loop : tie.MeasureT-loop
-μ-loop b s types c d best₀ steps r₀ best r = steps - r
+μ-loop b s types role c d best₀ steps r₀ best r = steps - r
 
 loop-holds : tie.Need-loop-holds Inv-loop μ-loop
 loop-holds c = search needs

@@ -13,11 +13,8 @@ Inv-loop seen₀ b s outcome marks n count w₀ digits counter₀ seen w counter
 abbrev μ-loop : tie.MeasureT-loop
 μ-loop seen₀ b s outcome marks n count w₀ digits counter₀ seen w counter = count - counter
 
-times-requires : tie.Need-times-requires Inv-loop μ-loop
-times-requires c κs = search needs
-
-cell-requires : tie.Need-cell-requires Inv-loop μ-loop
-cell-requires c κs = search needs
+digits-requires : tie.Need-digits-requires Inv-loop μ-loop
+digits-requires c κs = search needs
 
 loop-holds : tie.Need-loop-holds Inv-loop μ-loop
 loop-holds c = search needs
@@ -52,8 +49,7 @@ worlds-spec =
     (tie.spec
     Inv-loop
     μ-loop
-    times-requires
-    cell-requires
+    digits-requires
     loop-holds
     slice-aggregate-world
     world-requires
