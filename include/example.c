@@ -74,6 +74,7 @@ static int work_out(size_t length, size_t terms) {
     switch (w.verdict) {
     case ZEGBIKO_MEETS: printf("meets\n"); break;
     case ZEGBIKO_BREAKS_RULE: printf("breaks rule %zu at element %zu\n", w.number, w.element); break;
+    case ZEGBIKO_BREAKS_PAIR: printf("breaks pair %zu from element %zu to element %zu\n", w.number, w.element, w.second); break;
     case ZEGBIKO_BREAKS_MEMBERSHIP: printf("breaks membership claim %zu\n", w.number); break;
     default: printf("breaks link claim %zu\n", w.number);
     }

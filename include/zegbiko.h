@@ -16,11 +16,21 @@
  * every other field is 0. A refusal changes no buffer, but for 17 to 19: these come after deciding, so marks and placement are then
  * as zegbiko_decide leaves them.
  *
+ * Editions: byte 0 of a book is 1 or 2. Edition 1 has a head of 18 bytes, with an entry of offset and count (two bytes each) for terms, rules,
+ * membership claims and link claims, and then these sections. Edition 2 has a fifth entry, for pairs, in bytes 18 to 21; its sections begin at
+ * byte 22, and the pairs are the last: at most 64, of two bytes each, the lower role and the upper role, 0 to 7. Without pairs such a book is
+ * answered as the one of edition 1 with the same sections. A sheet has no edition: its byte 0 is 1.
+ *
+ * Pairs: an interpretation meets a pair when the lower role's link never exceeds the upper's. Only interpretations that meet every pair count, in
+ * every answer: a model is one of them. A pair may name one role twice, and pairs may recur. A role is above another when pairs, one or more, lead
+ * up to it, also through roles that no term uses; circles of pairs are allowed, and make roles equal.
+ *
  * Words: N is the number of steps of the book's chain, byte 1 of the book; grades are 0 to N. The number of terms is in bytes 4 and 5. An
  * interpretation has one element or more, and gives names and links their grades. A type is a list of grades, one for each term; a
  * candidate is the number of a type. A survivor is a candidate whose mark is 1; the survivors are exactly the types that an element can
- * have in some finite interpretation that meets the rules. A quantified term is one of kind "some" or "all". n is a sheet's number of
- * elements; A, R and I are one more than the highest name, role and individual of the book's terms and claims, or 0 where there is none.
+ * have in some finite interpretation that meets the rules and pairs. A quantified term is one of kind "some" or "all". n is a sheet's number of
+ * elements; A, R and I are one more than the highest name, role and individual of the book's terms, claims and pairs, or 0 where there is none.
+ * So a role that only a pair names counts towards R.
  */
 #ifndef ZEGBIKO_H
 #define ZEGBIKO_H
@@ -34,12 +44,12 @@ extern "C" {
 
 /* ---- The version, also that of the Rust wrapper and the manual page; docs/USING.md, "Versions", says what it promises */
 
-#define ZEGBIKO_VERSION "1.0.0"
+#define ZEGBIKO_VERSION "1.1.0"
 
 /* ---- Sizes in bytes; the buffers of these sizes suffice for every book */
 
-#define ZEGBIKO_BOOK_LEAST 18  /* the shortest book */
-#define ZEGBIKO_BOOK_MOST 850  /* the longest book */
+#define ZEGBIKO_BOOK_LEAST 18  /* the shortest book; of edition 2 it has 22 */
+#define ZEGBIKO_BOOK_MOST 982  /* the longest book, which is of edition 2; of edition 1 it has 850 */
 #define ZEGBIKO_MARKS 16384    /* a mark for each candidate; zegbiko_count says how many a book needs */
 #define ZEGBIKO_PLACEMENT 16   /* two bytes for each of 8 individuals; 16 are asked for with fewer too */
 #define ZEGBIKO_SHEET 33812    /* the longest sheet: 12 + 64 * 16 + 8 * 64 * 64 + 8 */
@@ -71,12 +81,13 @@ extern "C" {
 #define ZEGBIKO_REFUSED_RULES 7
 #define ZEGBIKO_REFUSED_MEMBERSHIP_CLAIMS 8
 #define ZEGBIKO_REFUSED_LINK_CLAIMS 9
-/* every call but zegbiko_check and zegbiko_work_out, after 9 */
+#define ZEGBIKO_REFUSED_PAIRS 22
+/* every call but zegbiko_check and zegbiko_work_out, after 22 */
 #define ZEGBIKO_REFUSED_CANDIDATES 10
 /* zegbiko_decide and zegbiko_write_sheet, after 10 */
 #define ZEGBIKO_REFUSED_MARKS 11
 #define ZEGBIKO_REFUSED_PLACEMENT 12
-/* zegbiko_work_out, after 9 */
+/* zegbiko_work_out, after 22 */
 #define ZEGBIKO_REFUSED_SHEET_HEAD 13
 #define ZEGBIKO_REFUSED_SHEET_LAYOUT 14
 #define ZEGBIKO_REFUSED_SHEET_ENTRIES 15
@@ -93,10 +104,10 @@ extern "C" {
 static inline const char *zegbiko_refusal_text(uint8_t refusal) {
     switch (refusal) {
     case 0: return "not refused";
-    case ZEGBIKO_REFUSED_BOOK_LENGTH: return "the book is not 18 to 850 bytes long";
-    case ZEGBIKO_REFUSED_EDITION: return "the edition, byte 0, is not 1";
+    case ZEGBIKO_REFUSED_BOOK_LENGTH: return "the book is not 18 to 850 bytes long, or, where byte 0 is 2, not 22 to 982";
+    case ZEGBIKO_REFUSED_EDITION: return "the edition, byte 0, is not 1 or 2";
     case ZEGBIKO_REFUSED_STEPS: return "N, byte 1, is not 1 to 8";
-    case ZEGBIKO_REFUSED_COUNTS: return "a count of terms, rules or claims is above 64";
+    case ZEGBIKO_REFUSED_COUNTS: return "a count of terms, rules, claims or pairs is above 64";
     case ZEGBIKO_REFUSED_LAYOUT: return "an offset or the length disagrees with the layout";
     case ZEGBIKO_REFUSED_TERMS:
         return "a term has a kind above 7, an operand out of range or an unused byte other than 0, or a name stands in two terms";
@@ -116,22 +127,24 @@ static inline const char *zegbiko_refusal_text(uint8_t refusal) {
     case ZEGBIKO_REFUSED_SHEET_BUFFER: return "the sheet buffer is too short for the sheet";
     case ZEGBIKO_REFUSED_CANDIDATE: return "a candidate number is not below the number of candidates";
     case ZEGBIKO_REFUSED_TERM_OR_ROLE: return "the term is not one of the book's, or the role is above 7";
+    case ZEGBIKO_REFUSED_PAIRS: return "a pair names a role above 7";
     default: return "no refusal number";
     }
 }
 
 /* ---- Outcomes of deciding */
 
-#define ZEGBIKO_HOLDS_TOGETHER 1 /* some model meets rules and claims */
+#define ZEGBIKO_HOLDS_TOGETHER 1 /* some model meets rules and claims; as every model, it meets the pairs */
 #define ZEGBIKO_CLAIMS_FAIL 2    /* the rules have a model, but none meets the claims */
 #define ZEGBIKO_NO_MODEL 3       /* the rules have no model */
 
-/* ---- Verdicts on a sheet */
+/* ---- Verdicts on a sheet; rules are looked at first, then pairs, membership claims and link claims */
 
-#define ZEGBIKO_MEETS 0             /* every rule and claim is met */
+#define ZEGBIKO_MEETS 0             /* every rule, pair and claim is met */
 #define ZEGBIKO_BREAKS_RULE 1       /* the first rule broken, and the lowest element at which it is */
-#define ZEGBIKO_BREAKS_MEMBERSHIP 2 /* no rule is broken; the first membership claim broken */
-#define ZEGBIKO_BREAKS_LINK 3       /* neither is; the first link claim broken */
+#define ZEGBIKO_BREAKS_MEMBERSHIP 2 /* no rule and no pair is broken; the first membership claim broken */
+#define ZEGBIKO_BREAKS_LINK 3       /* nor is one of these; the first link claim broken */
+#define ZEGBIKO_BREAKS_PAIR 4       /* no rule is broken; the first pair broken, its lowest first element, and then the lowest second one */
 
 /* ---- Answers */
 
@@ -153,9 +166,10 @@ typedef struct {
 
 typedef struct {
     uint8_t refusal;
-    uint8_t verdict; /* 0 to 3 */
-    size_t number;   /* of the rule or claim broken, from 0; 0 for "meets" */
-    size_t element;  /* the lowest element at which the rule is broken; 0 for the other verdicts */
+    uint8_t verdict; /* 0 to 4 */
+    size_t number;   /* of the rule, pair or claim broken, from 0; 0 for "meets" */
+    size_t element;  /* the lowest element at which the rule is broken, or from which a link breaks the pair; 0 for the other verdicts */
+    size_t second;   /* the lowest element to which a link from there breaks the pair; 0 for the other verdicts */
 } zegbiko_worked;
 
 typedef struct {
@@ -165,14 +179,14 @@ typedef struct {
 
 /* ---- Calls */
 
-/* Checks a book: 0 if it is accepted, else the refusal number, 1 to 9. */
+/* Checks a book: 0 if it is accepted, else the refusal number, 1 to 9 or 22. */
 uint8_t zegbiko_check(const uint8_t *book, size_t book_length);
 
-/* Checks a book, 1 to 10, and counts its candidates. */
+/* Checks a book, 1 to 9, 22 and 10, and counts its candidates. */
 zegbiko_counted zegbiko_count(const uint8_t *book, size_t book_length);
 
 /*
- * Decides a book, after 1 to 12: the outcome and the number of survivors.
+ * Decides a book, after 1 to 9, 22 and 10 to 12: the outcome and the number of survivors.
  * Mark byte c is set to 1 if candidate c survives, else to 0; mark bytes past the number of candidates are kept.
  * For outcome 1 the placement bytes 2j and 2j + 1 are set to the candidate at which individual j is placed, the high byte first; the
  * bytes past the last individual's are kept, and for outcomes 2 and 3 all of them. So where byte 2j is FF before the call and after it
@@ -190,7 +204,7 @@ zegbiko_written zegbiko_write_sheet(const uint8_t *book, size_t book_length, uin
                                     uint8_t *placement, size_t placement_length, uint8_t *sheet, size_t sheet_length);
 
 /*
- * Works out a sheet on a book, after 1 to 9 and 13 to 16: whether it meets the book's rules and claims, or which is broken first.
+ * Works out a sheet on a book, after 1 to 9, 22 and 13 to 16: whether it meets the book's rules, pairs and claims, or which is broken first.
  * The first n times the term count bytes of the grid are set, element by element, to the grades of all terms at the element; the
  * bytes past them are kept.
  */
@@ -198,7 +212,7 @@ zegbiko_worked zegbiko_work_out(const uint8_t *book, size_t book_length, const u
                                 size_t grid_length);
 
 /*
- * The grade of a term in a candidate, after 1 to 10, 20 and 21.
+ * The grade of a term in a candidate, after 1 to 9, 22, 10, 20 and 21.
  *
  * A candidate gives each term a grade. Those of names and of "some" and "all" terms (the kinds 0, 4 and 5), in the terms' order, are
  * the digits of the candidate's number in base N + 1, lowest first; those of the other terms follow from their children's.
@@ -206,16 +220,17 @@ zegbiko_worked zegbiko_work_out(const uint8_t *book, size_t book_length, const u
 zegbiko_graded zegbiko_grade(const uint8_t *book, size_t book_length, size_t candidate, size_t term);
 
 /*
- * The link from one candidate to another for a role of 0 to 7, after 1 to 10, 20 and 21: the strongest that their grades allow. It is the
- * greatest r of 0 to N such that
+ * The link from one candidate to another for a role of 0 to 7, after 1 to 9, 22, 10, 20 and 21: the strongest that their grades and the pairs
+ * allow. It is the least of the role's own bound and those of all roles above it. A role's bound is the greatest r of 0 to N such that
  *   - for each "all" term of the role, max(N - r, the child's grade in `to`) is at least the term's grade in `from`, and
- *   - for each "some" term of the role, min(r, the child's grade in `to`) is at most the term's grade in `from`.
- * Where no term has the role, it is N. No interpretation has a stronger link between elements of these two types.
+ *   - for each "some" term of the role, min(r, the child's grade in `to`) is at most the term's grade in `from`,
+ * and N where no term has the role. In a book without pairs no role is above another, so the link is the role's own bound. No interpretation that
+ * meets the pairs has a stronger link between elements of these two types, and these links meet the pairs.
  *
- * With this link r, `to` is a witness of a quantified term in `from` when the term takes just its grade from it: "all" when
+ * With the link r for the term's own role, `to` is a witness of a quantified term in `from` when the term takes just its grade from it: "all" when
  * max(N - r, the child's grade in `to`) equals the term's grade in `from`, "some" when min(r, the child's grade in `to`) does. A link of
  * 0 can do that too. Each quantified term of a survivor has a witness among the survivors. Take survivors, at least one, such that
- * each quantified term of each has a witness among them: with these links they are an interpretation that meets the rules and in
+ * each quantified term of each has a witness among them: with these links they are an interpretation that meets the rules and pairs, and in
  * which each has its grades. docs/USING.md makes a sheet of such survivors ("A model that fits on a sheet").
  */
 zegbiko_graded zegbiko_link(const uint8_t *book, size_t book_length, uint8_t role, size_t from, size_t to);

@@ -1,4 +1,4 @@
-//! broken BOOK SHEET: every rule and claim of a book that a sheet breaks, not only the first; docs/USING.md says how. Status 1 if there is one, or
+//! broken BOOK SHEET: every rule, pair and claim of a book that a sheet breaks, not only the first; docs/USING.md says how. Status 1 if there is one, or
 //! if book or sheet is refused. As a program of cargo it needs the package rust/ as a dependency; docs/examples/run builds it by rustc.
 
 use std::error::Error;
@@ -31,6 +31,15 @@ fn broken(book: &[u8], sheet: &[u8]) -> Result<Vec<String>, zegbiko::Refusal> {
             let (left, right) = (grade_at(e, rule[0]), grade_at(e, rule[1]));
             if left > right {
                 lines.push(format!("rule {number} at element {e}: {left} above {right}"));
+            }
+        }
+    }
+    let pairs = if book[0] == 2 { records(book, 18, 2) } else { [].chunks(2) }; // edition 1 has no entry for them
+    for (number, pair) in pairs.enumerate() {
+        for (e, f) in (0..elements).flat_map(|e| (0..elements).map(move |f| (e, f))) {
+            let (lower, upper) = (link(pair[0], e, f), link(pair[1], e, f));
+            if lower > upper {
+                lines.push(format!("pair {number} from element {e} to element {f}: {lower} above {upper}"));
             }
         }
     }

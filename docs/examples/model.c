@@ -91,6 +91,8 @@ static void write_sheet(size_t individuals) {
         if (quantified(t)) roles = greater(roles, term(t)[1] + 1u);
     }
     for (size_t i = 0; i < word(book + 16); i++) roles = greater(roles, book[word(book + 14) + 4 * i] + 1u);
+    size_t pairs = book[0] == 2 ? word(book + 20) : 0; /* edition 1 has no entry for them */
+    for (size_t i = 0; i < 2 * pairs; i++) roles = greater(roles, book[word(book + 18) + i] + 1u);
     put_head(names, roles, individuals);
     for (size_t e = 0; e < count; e++)
         for (size_t a = 0; a < names; a++) put(grade_of_name(members[e], a));

@@ -45,6 +45,7 @@ int main(int argc, char **argv) {
     switch (v.verdict) {
     case ZEGBIKO_MEETS: printf("meets\n"); break;
     case ZEGBIKO_BREAKS_RULE: printf("breaks rule %zu at element %zu\n", v.number, v.element); break;
+    case ZEGBIKO_BREAKS_PAIR: printf("breaks pair %zu from element %zu to element %zu\n", v.number, v.element, v.second); break;
     case ZEGBIKO_BREAKS_MEMBERSHIP: printf("breaks membership claim %zu\n", v.number); break;
     case ZEGBIKO_BREAKS_LINK: printf("breaks link claim %zu\n", v.number); break;
     }

@@ -7,6 +7,9 @@
 //! is asked of the caller. A refusal changes no buffer, but for 17 to 19, which come after deciding. Buffers of [`MARKS`],
 //! [`PLACEMENT`], [`SHEET`] and [`GRID`] bytes suffice for every book.
 //!
+//! A book of edition 2 may rank roles: an interpretation meets a pair of a lower and an upper role when the lower role's
+//! link never exceeds the upper's. Only interpretations that meet every pair count, in every answer.
+//!
 //! No call keeps anything for a later one, so all may be made from several threads at once. None uses the heap, but for
 //! [`Decision::of`]. [`decide`] and [`write_sheet`] need some 1.2 MB of stack: a thread with Rust's default of 2 MB
 //! suffices, one of 1 MB does not. The others need a few KB. Deciding most books takes some 20 to 60 µs, but placing
@@ -51,11 +54,11 @@ use std::error::Error;
 use std::fmt;
 
 /// The version, of header, wrapper and manual page alike; `docs/USING.md`, "Versions", says what it promises.
-pub const VERSION: &str = "1.0.0";
-/// The bytes of the shortest book.
+pub const VERSION: &str = "1.1.0";
+/// The bytes of the shortest book; of edition 2 it has 22.
 pub const BOOK_LEAST: usize = 18;
-/// The bytes of the longest book.
-pub const BOOK_MOST: usize = 850;
+/// The bytes of the longest book, which is of edition 2; of edition 1 it has 850.
+pub const BOOK_MOST: usize = 982;
 /// A marks buffer that suffices for every book; [`count`] says how many bytes a book needs.
 pub const MARKS: usize = 16384;
 /// The placement buffer: two bytes for each of 8 individuals, asked for with fewer too.
@@ -127,19 +130,19 @@ macro_rules! refusals {
 
 refusals! {
     BookLength = 1,
-        "is the book 18 to 850 bytes long?",
-        "the book is not 18 to 850 bytes long";
+        "is the book 22 to 982 bytes long when byte 0 is 2, and else 18 to 850?",
+        "the book is not 18 to 850 bytes long, or, where byte 0 is 2, not 22 to 982";
     Edition = 2,
-        "is byte 0 equal to 1?",
-        "the edition, byte 0, is not 1";
+        "is byte 0 equal to 1 or 2?",
+        "the edition, byte 0, is not 1 or 2";
     Steps = 3,
         "is N 1 to 8?",
         "N, byte 1, is not 1 to 8";
     Counts = 4,
-        "is each of the four counts at most 64?",
-        "a count of terms, rules or claims is above 64";
+        "is each count at most 64?",
+        "a count of terms, rules, claims or pairs is above 64";
     Layout = 5,
-        "do the four offsets and the length agree with the layout?",
+        "do the offsets and the length agree with the layout?",
         "an offset or the length disagrees with the layout";
     Terms = 6,
         "is every term as described, and does no name stand twice?",
@@ -189,10 +192,13 @@ refusals! {
     TermOrRole = 21,
         "is the term, or the role (0 to 7), in range?",
         "the term is not one of the book's, or the role is above 7";
+    Pairs = 22,
+        "does every pair name two roles of 0 to 7?",
+        "a pair names a role above 7";
 }
 
 impl Refusal {
-    /// The number of the check, 1 to 21.
+    /// The number of the check, 1 to 22. All calls ask 22 straight after 9.
     pub const fn number(self) -> u8 {
         self as u8
     }
@@ -201,7 +207,7 @@ impl Refusal {
     fn unless_answered(number: u8) -> Result<(), Refusal> {
         match number {
             0 => Ok(()),
-            _ => Err(Refusal::numbered(number).expect("a refusal is 1 to 21")),
+            _ => Err(Refusal::numbered(number).expect("a refusal is 1 to 22")),
         }
     }
 }
@@ -214,7 +220,7 @@ impl fmt::Display for Refusal {
 
 impl Error for Refusal {}
 
-/// What deciding finds.
+/// What deciding finds. A model is an interpretation that meets every pair of the book.
 #[derive(Clone, Copy, Debug, PartialEq, Eq, Hash)]
 #[repr(u8)]
 #[non_exhaustive]
@@ -255,7 +261,7 @@ pub struct Decision {
 }
 
 impl Decision {
-    /// Decides a book, with buffers of its own: refused with 1 to 10, or decided.
+    /// Decides a book, with buffers of its own: refused with 1 to 9, 22 or 10, or decided.
     ///
     /// Needs the stack that [`decide`] needs, and a byte of the heap for each candidate.
     pub fn of(book: &[u8]) -> Result<Decision, Refusal> {
@@ -301,18 +307,22 @@ impl fmt::Debug for Decision {
     }
 }
 
-/// The answer of [`work_out`]. Rules, claims and elements are numbered from 0.
+/// The answer of [`work_out`]. Rules are looked at first, then pairs, membership claims and link claims. All of these and
+/// elements are numbered from 0.
 #[derive(Clone, Copy, Debug, PartialEq, Eq, Hash)]
 #[repr(u8)]
 #[non_exhaustive]
 pub enum Verdict {
-    /// Every rule and claim is met.
+    /// Every rule, pair and claim is met.
     Meets = 0,
     /// The first rule broken, and the lowest element at which it is.
     BreaksRule { rule: usize, element: usize } = 1,
-    /// No rule is broken; the first membership claim broken.
+    /// No rule is broken; the first pair broken, the lowest element from which a link breaks it, and then the lowest to
+    /// which one from there does.
+    BreaksPair { pair: usize, first: usize, second: usize } = 4,
+    /// No rule and no pair is broken; the first membership claim broken.
     BreaksMembership { claim: usize } = 2,
-    /// Neither is; the first link claim broken.
+    /// Nor is one of these; the first link claim broken.
     BreaksLink { claim: usize } = 3,
 }
 
@@ -321,13 +331,16 @@ impl fmt::Display for Verdict {
         match self {
             Verdict::Meets => write!(f, "meets"),
             Verdict::BreaksRule { rule, element } => write!(f, "breaks rule {rule} at element {element}"),
+            Verdict::BreaksPair { pair, first, second } => {
+                write!(f, "breaks pair {pair} from element {first} to element {second}")
+            }
             Verdict::BreaksMembership { claim } => write!(f, "breaks membership claim {claim}"),
             Verdict::BreaksLink { claim } => write!(f, "breaks link claim {claim}"),
         }
     }
 }
 
-/// Checks a book: refused with 1 to 9, or accepted.
+/// Checks a book: refused with 1 to 9 or 22, or accepted.
 pub fn check(book: &[u8]) -> Result<(), Refusal> {
     // SAFETY: as for every call below, a slice's pointer is not null and valid for its length, and a mutable slice
     // overlaps no other.
@@ -335,7 +348,7 @@ pub fn check(book: &[u8]) -> Result<(), Refusal> {
     Refusal::unless_answered(refusal)
 }
 
-/// Counts the candidates of a book; refused with 1 to 10.
+/// Counts the candidates of a book; refused with 1 to 9, 22 and 10.
 pub fn count(book: &[u8]) -> Result<usize, Refusal> {
     // SAFETY: see `check`.
     let counted = unsafe { raw::zegbiko_count(book.as_ptr(), book.len()) };
@@ -343,7 +356,7 @@ pub fn count(book: &[u8]) -> Result<usize, Refusal> {
     Ok(counted.candidates as usize)
 }
 
-/// Decides a book by type elimination; refused with 1 to 12.
+/// Decides a book by type elimination; refused with 1 to 9, 22 and 10 to 12.
 ///
 /// Byte c of `marks` is set to 1 if candidate c survives, else to 0; bytes past the number of candidates are kept. For
 /// [`Outcome::HoldsTogether`] two bytes of `placement` for each individual, the high byte first, are set to the
@@ -373,7 +386,7 @@ pub fn decide(book: &[u8], marks: &mut [u8], placement: &mut [u8]) -> Result<Dec
 }
 
 /// Decides a book as [`decide`] does, `marks` and `placement` likewise, then writes the sheet of its model and gives the
-/// sheet's length; refused with 1 to 12 and, after deciding, 17 to 19.
+/// sheet's length; refused with 1 to 9, 22, 10 to 12 and, after deciding, 17 to 19.
 ///
 /// The model's elements are the survivors, ascending, with the individuals as placed. The bytes of `sheet` past the sheet
 /// are kept, and on a refusal all of them; a refusal with 17 to 19 leaves `marks` and `placement` as decided.
@@ -397,8 +410,8 @@ pub fn write_sheet(book: &[u8], marks: &mut [u8], placement: &mut [u8], sheet: &
     Ok(written.length)
 }
 
-/// Works out a sheet on a book: whether it meets the rules and claims, or which is broken first; refused with 1 to 9 and
-/// 13 to 16.
+/// Works out a sheet on a book: whether it meets the rules, pairs and claims, or which is broken first; refused with 1 to
+/// 9, 22 and 13 to 16.
 ///
 /// The first n times the term count bytes of `grid` are set, element by element, to the grades of all terms; the bytes
 /// past them are kept.
@@ -413,11 +426,12 @@ pub fn work_out(book: &[u8], sheet: &[u8], grid: &mut [u8]) -> Result<Verdict, R
         1 => Verdict::BreaksRule { rule: worked.number, element: worked.element },
         2 => Verdict::BreaksMembership { claim: worked.number },
         3 => Verdict::BreaksLink { claim: worked.number },
+        4 => Verdict::BreaksPair { pair: worked.number, first: worked.element, second: worked.second },
         other => unreachable!("verdict {other}"),
     })
 }
 
-/// The grade of a term in a candidate; refused with 1 to 10, 20 and 21.
+/// The grade of a term in a candidate; refused with 1 to 9, 22, 10, 20 and 21.
 ///
 /// A candidate gives each term a grade. Those of names and of "some" and "all" terms (the kinds 0, 4 and 5), in the terms'
 /// order, are the digits of the candidate's number in base N + 1, lowest first; those of the other terms follow from their
@@ -429,22 +443,25 @@ pub fn grade(book: &[u8], candidate: usize, term: usize) -> Result<u8, Refusal> 
     Ok(graded.grade)
 }
 
-/// The link from one candidate to another for a role: the strongest that their grades allow; refused with 1 to 10, 20 and
-/// 21.
+/// The link from one candidate to another for a role: the strongest that their grades and the pairs allow; refused with 1
+/// to 9, 22, 10, 20 and 21.
 ///
-/// It is the greatest r of 0 to N such that
+/// It is the least of the role's own bound and those of all roles above it: the upper roles of its pairs, theirs, and so
+/// on. A role's bound is the greatest r of 0 to N such that
 ///
 /// - for each "all" term of the role, max(N − r, the child's grade in `to`) is at least the term's grade in `from`, and
-/// - for each "some" term of the role, min(r, the child's grade in `to`) is at most the term's grade in `from`.
+/// - for each "some" term of the role, min(r, the child's grade in `to`) is at most the term's grade in `from`,
 ///
-/// Where no term has the role, it is N. No interpretation has a stronger link between elements of these two types.
+/// and N where no term has the role. In a book without pairs no role is above another, so the link is the role's own bound.
+/// No interpretation that meets the pairs has a stronger link between elements of these two types, and these links meet the
+/// pairs.
 ///
-/// With this link r, `to` is a *witness* of a quantified term in `from` when the term takes just its grade from it: "all"
-/// when max(N − r, the child's grade in `to`) equals the term's grade in `from`, "some" when min(r, the child's grade in
-/// `to`) does. A link of 0 can do that too. Each quantified term of a survivor has a witness among the survivors. Take
-/// survivors, at least one, such that each quantified term of each has a witness among them: with these links they are an
-/// interpretation that meets the rules and in which each has its grades. `docs/USING.md` makes a sheet of such survivors
-/// ("A model that fits on a sheet").
+/// With the link r for the term's own role, `to` is a *witness* of a quantified term in `from` when the term takes just
+/// its grade from it: "all" when max(N − r, the child's grade in `to`) equals the term's grade in `from`, "some" when min(r,
+/// the child's grade in `to`) does. A link of 0 can do that too. Each quantified term of a survivor has a witness among the
+/// survivors. Take survivors, at least one, such that each quantified term of each has a witness among them: with these
+/// links they are an interpretation that meets the rules and pairs, and in which each has its grades. `docs/USING.md` makes
+/// a sheet of such survivors ("A model that fits on a sheet").
 pub fn link(book: &[u8], role: u8, from: usize, to: usize) -> Result<u8, Refusal> {
     // SAFETY: see `check`.
     let graded = unsafe { raw::zegbiko_link(book.as_ptr(), book.len(), role, from, to) };
@@ -490,6 +507,7 @@ pub mod raw {
         pub verdict: u8,
         pub number: usize,
         pub element: usize,
+        pub second: usize,
     }
 
     #[derive(Clone, Copy, Debug)]

@@ -24,7 +24,13 @@ fn right() -> Draft {
         rules: vec![[0, 1], [5, 3]],
         memberships: vec![[0, 0, 0, 3], [1, 3, 1, 2]],
         links: vec![[0, 0, 1, 3], [1, 0, 1, 2]],
+        pairs: None,
     }
+}
+
+/// The same of edition 2, with these pairs.
+fn ranked(pairs: &[[u8; 2]]) -> Draft {
+    Draft { pairs: Some(pairs.to_vec()), ..right() }
 }
 
 /// The specification's book, which has three candidates and one survivor, and the sheet of its model.
@@ -35,6 +41,7 @@ fn printed() -> Draft {
         rules: vec![[0, 1], [1, 0]],
         memberships: vec![[0, 0, 0, 1]],
         links: vec![],
+        pairs: None,
     }
 }
 
@@ -99,7 +106,8 @@ fn hexadecimal(bytes: &[u8]) -> Vec<u8> {
 fn mistakes() -> Vec<(u8, &'static str, u8)> {
     let of_names =
         |steps, names: u8| Draft { terms: (0..names).map(|name| [NAME, name, 0]).collect(), ..Draft::new(steps) };
-    let long = with(|book| (book.memberships, book.links) = (vec![[0, 0, 0, 3]; 64], vec![[0, 0, 1, 3]; 64])).bytes();
+    let claims = with(|book| (book.memberships, book.links) = (vec![[0, 0, 0, 3]; 64], vec![[0, 0, 1, 3]; 64]));
+    let long = claims.bytes();
     assert!(long.len() > 425 && check(&long) == 0);
     let one_name = Draft { terms: vec![[NAME, 3, 0]], ..Draft::new(2) };
     let fewer_types = Draft { terms: vec![[NAME, 0, 0], [NOT, 0, 0], [NOT, 1, 0], [NOT, 2, 0]], ..Draft::new(1) };
@@ -111,6 +119,21 @@ fn mistakes() -> Vec<(u8, &'static str, u8)> {
         (1, "a book cut off before its head ends", bytes(|book| book.truncate(17))),
         (1, "hexadecimal text in place of the bytes, of more than 850 characters: with remarks a book of 50 bytes may have that", check(&hexadecimal(&long))),
         (1, "many books one behind the other in one file", check(&right().bytes().repeat(20))),
+        (1, "a book of edition 2 that is longer than 850 bytes, and byte 0 left 1", {
+            let rules = vec![[0, 1]; 64];
+            let terms = vec![[NOT, 0, 0]; 58];
+            let mut book = Draft { rules, pairs: Some(vec![[0, 1]; 64]), ..claims };
+            book.terms.extend(terms);
+            let mut bytes = book.bytes();
+            assert!(bytes.len() > 850 && check(&bytes) == 0);
+            bytes[0] = 1;
+            check(&bytes)
+        }),
+        (1, "edition 2 in byte 0, in a book without terms, rules and claims that has no fifth entry", {
+            let mut bytes = Draft::new(4).bytes();
+            bytes[0] = 2;
+            check(&bytes)
+        }),
         (
             2,
             "hexadecimal text in place of the bytes: byte 0 is then a digit or a space, 30 or 20 hex",
@@ -171,6 +194,29 @@ fn mistakes() -> Vec<(u8, &'static str, u8)> {
         }),
         (5, "offset and count of an entry exchanged, where the offset is at most 64", bytes(|book| book[2..6].rotate_left(2))),
         (5, "a book cut off behind its head", bytes(|book| book.truncate(40))),
+        (5, "an edition that does not fit the head: 2 without the fifth entry, or 1 with it", {
+            let without = bytes(|book| book[0] = 2);
+            let mut with = ranked(&[[0, 1]]).bytes();
+            with[0] = 1;
+            assert_eq!(without, check(&with));
+            without
+        }),
+        (5, "the fifth entry added, and the offsets left as they were", {
+            let mut book = ranked(&[[0, 1]]).bytes();
+            assert_eq!(check(&book), 0);
+            book[2..18].copy_from_slice(&right().bytes()[2..18]);
+            check(&book)
+        }),
+        (5, "pairs that stand before the claims and not behind them", {
+            let mut book = ranked(&[[0, 1]]).bytes();
+            let (claims, pairs) = (usize::from(book[11]), usize::from(book[19]));
+            book[claims..].rotate_right(2);
+            let moved = |at: usize, offset: usize| (at, offset as u8);
+            for (at, offset) in [moved(19, claims), moved(11, claims + 2), moved(15, pairs + 2 - 8)] {
+                book[at] = offset;
+            }
+            check(&book)
+        }),
         (6, "a child that is not an earlier term: the term itself, or one behind it", {
             let itself = draft(|book| book.terms[2] = [NOT, 2, 0]);
             assert_eq!(itself, draft(|book| book.terms[2] = [NOT, 3, 0]));
@@ -265,6 +311,17 @@ fn mistakes() -> Vec<(u8, &'static str, u8)> {
             assert_eq!(work_out(&book, &linked, zegbiko::GRID), 0);
             work_out(&book, &SHEET, zegbiko::GRID)
         }),
+        (13, "R without a role that only a pair names", {
+            let book = Draft { pairs: Some(vec![[1, 0]]), ..printed() };
+            let linked = [&[1, 2, 1, 1, 2, 1, 0, 12, 0, 13, 0, 15][..], &[1, 0, 0, 0]].concat();
+            assert_eq!(work_out(&book, &linked, zegbiko::GRID), 0);
+            work_out(&book, &SHEET, zegbiko::GRID)
+        }),
+        (13, "the book's edition in byte 0 of the sheet, where it is 2", {
+            let book = Draft { pairs: Some(vec![]), ..printed() };
+            assert_eq!(work_out(&book, &SHEET, zegbiko::GRID), 0);
+            work_out(&book, &sheet(|sheet| sheet[0] = 2), zegbiko::GRID)
+        }),
         (14, "a newline at the end of the file", work_out(&printed(), &sheet(|sheet| sheet.push(b'\n')), zegbiko::GRID)),
         (14, "an element added, and the offsets not moved", {
             let two = sheet(|sheet| (sheet[2], _) = (2, sheet.insert(12, 1)));
@@ -311,6 +368,13 @@ fn mistakes() -> Vec<(u8, &'static str, u8)> {
         (20, "candidates numbered from 1", number(zegbiko::grade(&printed().bytes(), 3, 0))),
         (21, "the number of terms in place of a term's", number(zegbiko::grade(&printed().bytes(), 0, 2))),
         (21, "a role above 7", number(zegbiko::link(&printed().bytes(), 8, 0, 0))),
+        (22, "roles numbered from 1, with eight of them", check(&ranked(&[[7, 8]]).bytes())),
+        (22, "a name's number in place of a role's, where it is above 7", check(&ranked(&[[12, 0]]).bytes())),
+        (22, "rules among the pairs: both have two bytes, and a term's number may be above 7", {
+            let mut book = ranked(&[[0, 1], [9, 3]]);
+            book.terms.extend([[NOT, 0, 0]; 4]);
+            check(&book.bytes())
+        }),
     ]
 }
 
@@ -395,6 +459,20 @@ fn unseen_mistakes_are_accepted() {
         }
     }
 
+    let on_pairs = [
+        ("lower and upper role of a pair exchanged", [[0, 1]], [[1, 0]]),
+        ("roles of pairs numbered from 1, where they are at most 7", [[0, 1]], [[1, 2]]),
+    ];
+    for (mistake, meant, made) in &on_pairs {
+        assert!(check(&ranked(meant).bytes()) == 0 && check(&ranked(made).bytes()) == 0, "{mistake}");
+    }
+    let of_roles = Draft { terms: vec![[6, 0, 0], [SOME, 0, 0], [SOME, 1, 0]], ..Draft::new(1) };
+    let listed = |pair: [u8; 2]| {
+        let book = Draft { pairs: Some(vec![pair]), ..of_roles.clone() };
+        zegbiko::Decision::of(&book.bytes()).map(|decision| decision.listed().collect::<Vec<_>>())
+    };
+    assert_ne!(listed([0, 1]), listed([1, 0]));
+
     let of_links = Draft { terms: vec![[NAME, 0, 0], [SOME, 0, 0]], ..Draft::new(4) };
     let sheet = |links: [u8; 4]| [&[1, 4, 2, 1, 1, 0, 0, 12, 0, 14, 0, 18, 0, 4][..], &links].concat();
     let grid = |links| {
@@ -407,5 +485,6 @@ fn unseen_mistakes_are_accepted() {
 
     let document = fs::read_to_string(NUMBERS).expect(NUMBERS);
     let written = bullets_under(&document, "## Mistakes that no check can see");
-    assert_eq!(written, unseen.iter().map(|(mistake, _)| *mistake).chain([on_sheets]).collect::<Vec<_>>());
+    let made = unseen.iter().map(|(mistake, _)| *mistake).chain(on_pairs.map(|(mistake, ..)| mistake));
+    assert_eq!(written, made.chain([on_sheets]).collect::<Vec<_>>());
 }

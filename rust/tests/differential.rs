@@ -1,4 +1,5 @@
-//! Every call of the library against the plain implementation, on seeded books and sheets.
+//! Every call of the library against the plain implementation, on seeded books and sheets. A case has a book of each
+//! edition.
 //!
 //! `ZEGBIKO_SEED` gives another seed, `ZEGBIKO_CASES` another number of cases; `ZEGBIKO_CASE` runs that one alone.
 
@@ -19,19 +20,23 @@ use compared::tally::Tally;
 use generate::damage::damaged;
 use generate::random::Random;
 use generate::{books, sheets};
-use plain::book::{Book, Term};
+use plain::book::{number, Book, Pair, Term};
+use plain::placement::Decision;
 use plain::Plain;
 use support::buffer::Buffer;
 use support::calls::{Answer, Call};
 
 const SEED: u64 = 1;
 const CASES: u64 = 100_000;
+const EDITIONS: [u8; 2] = [1, 2];
 
 #[test]
 fn library_and_plain_implementation_agree() {
     let (seed, cases) = (setting("ZEGBIKO_SEED").unwrap_or(SEED), setting("ZEGBIKO_CASES").unwrap_or(CASES));
     if let Some(number) = setting("ZEGBIKO_CASE") {
-        Case::run(seed, number, &mut tally());
+        for edition in EDITIONS {
+            Case::run(seed, edition, number, &mut tally());
+        }
         println!("seed {seed}: case {number} agrees");
         return;
     }
@@ -42,8 +47,11 @@ fn library_and_plain_implementation_agree() {
         let mut note = File::create(format!("{}/differential-{worker}", env!("CARGO_TARGET_TMPDIR"))).expect("a file");
         let mut tally = tally();
         for number in (worker as u64..cases).step_by(workers) {
-            note.rewind().and_then(|()| writeln!(note, "seed {seed} case {number}")).expect("a line");
-            Case::run(seed, number, &mut tally);
+            for edition in EDITIONS {
+                let case = name(seed, edition, number);
+                note.rewind().and_then(|()| writeln!(note, "{case}")).expect("a line");
+                Case::run(seed, edition, number, &mut tally);
+            }
         }
         tally
     };
@@ -57,7 +65,11 @@ fn library_and_plain_implementation_agree() {
 }
 
 fn tally() -> Tally {
-    Tally::demanding(&[("refusal", 1..=21), ("outcome", 1..=3), ("verdict", 0..=3)])
+    Tally::demanding(&[("refusal", 1..=22), ("outcome", 1..=3), ("verdict", 0..=4)])
+}
+
+fn name(seed: u64, edition: u8, number: u64) -> String {
+    format!("seed {seed} case {number} edition {edition}")
 }
 
 fn setting(name: &str) -> Option<u64> {
@@ -66,8 +78,7 @@ fn setting(name: &str) -> Option<u64> {
 
 /// One book with many calls on it.
 struct Case<'a> {
-    seed: u64,
-    number: u64,
+    name: String,
     random: Random,
     book: Vec<u8>,
     plain: Plain,
@@ -75,11 +86,14 @@ struct Case<'a> {
 }
 
 impl Case<'_> {
-    fn run(seed: u64, number: u64, tally: &mut Tally) {
-        let mut random = Random::of(seed, number);
-        let book = books::any(&mut random);
+    fn run(seed: u64, edition: u8, number: u64, tally: &mut Tally) {
+        let (mut random, draw): (_, fn(&mut Random) -> _) = match edition {
+            1 => (Random::of(seed, number), books::any),
+            _ => (Random::of_edition_2(seed, number), books::ranked),
+        };
+        let book = draw(&mut random);
         let plain = Plain::open(&book);
-        let mut case = Case { seed, number, random, book, plain, tally };
+        let mut case = Case { name: name(seed, edition, number), random, book, plain, tally };
         case.note_the_book();
         case.compare(Call::Check, &[]);
         case.compare(Call::Count, &[]);
@@ -88,24 +102,46 @@ impl Case<'_> {
         case.compare_sheets();
     }
 
-    fn name(&self) -> String {
-        format!("seed {} case {}", self.seed, self.number)
-    }
-
     /// Counts books of the special kinds; each kind has to occur.
     fn note_the_book(&mut self) {
         let mut note = |name: &str, seen| self.tally.add(&format!("books {name}"), seen);
-        note("of 18 bytes", self.book.len() == 18);
-        note("of 850 bytes", self.book.len() == 850);
+        let (length, first) = (self.book.len(), self.book.first().copied());
+        [18, 22, 850, 851, 982, 983].iter().for_each(|&n| note(&format!("of {n:3} bytes"), length == n));
+        (0..=3).for_each(|byte| note(&format!("that begin with {byte}"), first == Some(byte)));
+        note("of edition 2, cut inside the head", first == Some(2) && (18..22).contains(&length));
         let Ok(book) = self.plain.book() else { return };
+        [(1, 18), (1, 850), (2, 22), (2, 850), (2, 851), (2, 982)].iter().for_each(|&(edition, n)| {
+            note(&format!("accepted, edition {edition}, of {n:3} bytes"), first == Some(edition) && length == n)
+        });
         (1..=8).for_each(|steps| note(&format!("accepted, N {steps}"), book.steps == steps));
         note("accepted, a gap in the names", names(book).len() < book.names());
         note("accepted, three roles or more in terms", roles(book).len() >= 3);
         note("accepted, an individual that no claim mentions", individuals(book).len() < book.individuals());
+        if first == Some(2) {
+            let mut note = |name: &str, seen| note(&format!("accepted, edition 2, {name}"), seen);
+            note("no pairs", book.pairs.is_empty());
+            note("64 pairs", book.pairs.len() == 64);
+            note("a role under itself", book.pairs.iter().any(|pair| pair.lower == pair.upper));
+            note("a pair that recurs", pairs(book).len() < book.pairs.len());
+            note("a circle of two roles or more", has_a_circle(book));
+            note("a way through a role that no term and no claim uses", has_a_way_through_an_unused_role(book));
+            note("a role that only pairs name is the highest", roles_in_terms_and_claims(book) < book.roles());
+        }
         let Ok(eliminated) = self.plain.eliminated() else { return };
         note("of 16,384 candidates", self.plain.count() == Ok(16_384));
         [1, 2, 4, 8, 16].iter().for_each(|&n| note(&format!("of {n:2} sweeps or more"), eliminated.sweeps >= n));
         (64..=65).for_each(|n| note(&format!("of {n} survivors"), eliminated.survivors.len() == n));
+        if !book.pairs.is_empty() && self.plain.count().is_ok_and(|count| count <= 81) {
+            let unranked = Plain::open(&without_pairs(&self.book));
+            let Ok(other) = unranked.eliminated() else { unreachable!("as many candidates") };
+            let (fewer, most) = (eliminated.survivors.len(), other.survivors.len());
+            assert!(fewer <= most, "{}: with pairs no type comes to be that was not one", self.name);
+            note("whose pairs take survivors away", fewer < most);
+            note("whose pairs take all survivors away", fewer == 0 && most > 0);
+            let fails = matches!(self.plain.decision(), Ok(Decision::ClaimsFail));
+            let held = matches!(unranked.decision(), Ok(Decision::HoldsTogether(_)));
+            note("of outcome 2, 1 without their pairs", fails && held);
+        }
     }
 
     fn compare_candidates(&mut self) {
@@ -114,9 +150,23 @@ impl Case<'_> {
         for _ in 0..4 {
             let (candidate, term) = (self.index(count), self.index(terms));
             self.compare(Call::Grade { candidate, term }, &[]);
-            let role = if self.random.one_in(8) { self.random.pick(&[8, 9, 255]) } else { self.random.up_to(7) };
+            let role = if self.random.one_in(8) { self.random.pick(&[8, 9, 255]) } else { self.role() };
             let (from, to) = (self.index(count), self.index(count));
-            self.compare(Call::Link { role, from, to }, &[]);
+            let ([refusal, link, ..], _) = self.compare(Call::Link { role, from, to }, &[]);
+            if let (0, Ok(book)) = (refusal, self.plain.book()) {
+                let bound = book.bound(role, &book.type_of(from), &book.type_of(to));
+                self.tally.add("links below the role's own bound", link < usize::from(bound));
+            }
+        }
+    }
+
+    /// Any role, or, as often, the lower one of a pair.
+    fn role(&mut self) -> u8 {
+        match self.plain.book() {
+            Ok(book) if !book.pairs.is_empty() && self.random.one_in(2) => {
+                book.pairs[self.random.below(book.pairs.len())].lower
+            }
+            _ => self.random.up_to(7),
         }
     }
 
@@ -139,11 +189,11 @@ impl Case<'_> {
             (decision.outcome() as usize, decision.survivors()),
             (outcome, eliminated.survivors.len()),
             "{}",
-            self.name()
+            self.name
         );
-        assert!(decision.listed().eq(eliminated.survivors.keys().copied()), "{}", self.name());
+        assert!(decision.listed().eq(eliminated.survivors.keys().copied()), "{}", self.name);
         let seats = placement.chunks(2).map(|place| usize::from(place[0]) * 256 + usize::from(place[1]));
-        assert!(decision.placed().eq(seats.take(placed)), "{}", self.name());
+        assert!(decision.placed().eq(seats.take(placed)), "{}", self.name);
     }
 
     fn note_the_placement(&mut self, outcome: usize, placement: &[u8]) {
@@ -170,7 +220,7 @@ impl Case<'_> {
             self.tally.add("sheets written, the longest", length == zegbiko::SHEET);
             let written = buffers[2].contents()[..length].to_vec();
             let answer = self.compare_sheet(&written);
-            assert!(matches!(answer, [0, 0, ..] | [16, ..]), "{}: a written sheet meets its book", self.name());
+            assert!(matches!(answer, [0, 0, ..] | [16, ..]), "{}: a written sheet meets its book", self.name);
             let other = damaged(&mut self.random, written);
             self.compare_sheet(&other);
         }
@@ -221,7 +271,7 @@ impl Case<'_> {
 
     fn compare(&mut self, call: Call, sheet: &[u8]) -> (Answer, Vec<Buffer>) {
         let compared = compare(&mut self.random, &self.book, &self.plain, sheet, call);
-        let (answer, buffers) = compared.unwrap_or_else(|difference| panic!("{}: {difference}", self.name()));
+        let (answer, buffers) = compared.unwrap_or_else(|difference| panic!("{}: {difference}", self.name));
         self.tally.add_answer(call, answer);
         (answer, buffers)
     }
@@ -235,6 +285,41 @@ fn names(book: &Book) -> BTreeSet<u8> {
 fn roles(book: &Book) -> BTreeSet<u8> {
     let role = |term: &Term| if let Term::Some(role, _) | Term::All(role, _) = *term { Some(role) } else { None };
     book.terms.iter().filter_map(role).collect()
+}
+
+fn roles_in_terms_and_claims(book: &Book) -> usize {
+    let in_claims = book.links.iter().map(|claim| claim.role);
+    roles(book).into_iter().chain(in_claims).max().map_or(0, |role| usize::from(role) + 1)
+}
+
+fn pairs(book: &Book) -> BTreeSet<(u8, u8)> {
+    book.pairs.iter().map(|pair| (pair.lower, pair.upper)).collect()
+}
+
+fn has_a_circle(book: &Book) -> bool {
+    let back = |pair: &Pair| book.upward[usize::from(pair.upper)].contains(&pair.lower);
+    book.pairs.iter().any(|pair| pair.lower != pair.upper && back(pair))
+}
+
+/// Two roles of terms, and one of neither terms nor claims between them, without which no pair leads from one to the other.
+fn has_a_way_through_an_unused_role(book: &Book) -> bool {
+    let (roles, pairs) = (roles(book), pairs(book));
+    let used = |role: u8| roles.contains(&role) || book.links.iter().any(|claim| claim.role == role);
+    let between = |lower: u8, upper: u8| {
+        (0..=7).any(|role| !used(role) && pairs.contains(&(lower, role)) && pairs.contains(&(role, upper)))
+    };
+    let apart = |lower: u8, upper: u8| lower != upper && !pairs.contains(&(lower, upper));
+    roles.iter().any(|&lower| roles.iter().any(|&upper| apart(lower, upper) && between(lower, upper)))
+}
+
+/// The book of edition 1 with the same sections but for the pairs.
+fn without_pairs(book: &[u8]) -> Vec<u8> {
+    let mut bytes = [&[1], &book[1..18], &book[22..number(&book[18..20])]].concat();
+    for entry in bytes[2..18].chunks_mut(4) {
+        let offset = number(entry) - 4;
+        entry[..2].copy_from_slice(&(offset as u16).to_be_bytes());
+    }
+    bytes
 }
 
 fn individuals(book: &Book) -> BTreeSet<usize> {

@@ -1,5 +1,5 @@
-//! The readings of the specification (document 01) and the hard books of the benchmark, held against the library and the
-//! plain implementation alike. The expected values come from the document, or were worked out by hand.
+//! The readings of the specification (document 01, and P1 of document 02) and the hard books of the benchmark, held against
+//! the library and the plain implementation alike. The expected values come from the documents, or were worked out by hand.
 
 mod plain;
 mod support;
@@ -30,11 +30,11 @@ fn ask(side: Side, book: &[u8], sheet: &[u8], call: Call) -> (Answer, Vec<Buffer
     (answer, buffers)
 }
 
-/// Asks every side, and expects one answer and the first bytes of the last buffer.
-fn answers(book: &Draft, sheet: &[u8], call: Call, expected: Answer, written: &[u8]) {
+/// Asks every side, and expects the first fields of one answer, 0 in the others, and the first bytes of the last buffer.
+fn answers<const N: usize>(book: &Draft, sheet: &[u8], call: Call, expected: [usize; N], written: &[u8]) {
     for side in SIDES {
         let (answer, buffers) = ask(side, &book.bytes(), sheet, call);
-        assert_eq!(answer, expected, "{} of {book:?}", call.name());
+        assert_eq!(answer, calls::answer(expected), "{} of {book:?}", call.name());
         let last = buffers.last().map_or(&[][..], Buffer::contents);
         assert!(last.starts_with(written) && last[written.len()..].iter().all(|&byte| byte == KEPT));
     }
@@ -45,7 +45,7 @@ type Decided = Result<(usize, Vec<usize>, Vec<usize>), usize>;
 
 fn decide(side: Side, book: &[u8]) -> Decided {
     let call = Call::Decide { marks: zegbiko::MARKS, placement: zegbiko::PLACEMENT };
-    let ([refusal, outcome, survivors, _], buffers) = ask(side, book, &[], call);
+    let ([refusal, outcome, survivors, ..], buffers) = ask(side, book, &[], call);
     if refusal != 0 {
         return Err(refusal);
     }
@@ -254,6 +254,290 @@ fn looking_again() {
     decided(&book, 1, &[0], &[]);
     let plain = Plain::open(&book.bytes());
     assert_eq!(plain.eliminated().map(|eliminated| eliminated.sweeps), Ok(2));
+}
+
+/// Of edition 2, with these pairs of lower and upper role.
+fn ranked(book: &Draft, pairs: &[[u8; 2]]) -> Draft {
+    Draft { pairs: Some(pairs.to_vec()), ..book.clone() }
+}
+
+/// "An interpretation meets a pair when the lower role's link never exceeds the upper's": a link claim on the lower role
+/// is one on the upper role too.
+#[test]
+fn a_link_of_the_lower_role_seen_by_all_of_the_upper() {
+    // Individual 0 is in "all r1 A" fully, is linked to individual 1 by r0 fully, and 1 is in A at most to some grade.
+    let book = |most| {
+        let mut book = Draft::new(2);
+        let a = book.term(NAME, 0, 0);
+        let all_a = book.term(ALL, 1, a);
+        book.memberships = vec![[0, all_a, AT_LEAST, 2], [1, a, AT_MOST, most]];
+        book.links = vec![[0, 0, 1, 2]];
+        book
+    };
+    // Candidates are A's grade and three times that of "all r1 A". All survive, whatever the pairs, which r0 alone could feel
+    // below r1: g is taken from A graded g through a link of 2. Without pairs the claim says nothing of r1.
+    let all: Vec<usize> = (0..9).collect();
+    decided(&book(1), 1, &all, &[6, 0]);
+    // r0 under r1: the link of r1 is 2 too, so "all r1 A" is at most the grade of A at individual 1.
+    decided(&ranked(&book(1), &[[0, 1]]), 2, &all, &[]);
+    // With A at most 2 there is a seat for individual 1: the first candidate with A graded 2.
+    decided(&ranked(&book(2), &[[0, 1]]), 1, &all, &[6, 2]);
+    // Not the other way round: r1 under r0 leaves r1 below the link claimed.
+    decided(&ranked(&book(1), &[[1, 0]]), 1, &all, &[6, 0]);
+    // A circle makes them equal, which has the pair's effect again.
+    decided(&ranked(&book(1), &[[1, 0], [0, 1]]), 2, &all, &[]);
+}
+
+#[test]
+fn a_link_of_the_lower_role_seen_by_some_of_the_upper() {
+    // "some r1 top" at most 0 at individual 0, which is linked by r0.
+    let mut book = Draft::new(1);
+    let top = book.term(TOP, 0, 0);
+    let some = book.term(SOME, 1, top);
+    book.memberships = vec![[0, some, AT_MOST, 0]];
+    book.links = vec![[0, 0, 0, 1]];
+    decided(&book, 1, &[0, 1], &[0]);
+    decided(&ranked(&book, &[[0, 1]]), 2, &[0, 1], &[]);
+    decided(&ranked(&book, &[[1, 0]]), 1, &[0, 1], &[0]);
+}
+
+/// "some r top" for each of these roles, N 1: the candidates' bits, lowest first, say which roles have a link.
+fn linked_by(roles: &[u8]) -> Draft {
+    let mut book = Draft::new(1);
+    let top = book.term(TOP, 0, 0);
+    for &role in roles {
+        book.term(SOME, role, top);
+    }
+    book
+}
+
+#[test]
+fn types_under_pairs() {
+    let book = linked_by(&[0, 1]);
+    decided(&book, 1, &[0, 1, 2, 3], &[]);
+    // r0 under r1: of candidate 1 r1 has no link, so r0 has none, and "some r0 top" is not 1.
+    decided(&ranked(&book, &[[0, 1]]), 1, &[0, 2, 3], &[]);
+    decided(&ranked(&book, &[[1, 0]]), 1, &[0, 1, 3], &[]);
+    // A pair that recurs says nothing new, and one of a role with itself nothing at all.
+    decided(&ranked(&book, &[[0, 1], [0, 1]]), 1, &[0, 2, 3], &[]);
+    decided(&ranked(&book, &[[0, 0], [1, 1]]), 1, &[0, 1, 2, 3], &[]);
+    // Pairs of other roles leave these two alone.
+    decided(&ranked(&book, &[[2, 0], [1, 3], [4, 5]]), 1, &[0, 1, 2, 3], &[]);
+}
+
+#[test]
+fn circles_make_roles_equal() {
+    let book = linked_by(&[0, 1, 2]);
+    // r0 under r1 under r2: bit 0 is at most bit 1, and bit 1 at most bit 2.
+    decided(&ranked(&book, &[[0, 1], [1, 2]]), 1, &[0, 4, 6, 7], &[]);
+    // With r2 under r0 all bits are equal, whichever pair comes first.
+    decided(&ranked(&book, &[[0, 1], [1, 2], [2, 0]]), 1, &[0, 7], &[]);
+    decided(&ranked(&book, &[[2, 0], [1, 2], [0, 1]]), 1, &[0, 7], &[]);
+    // r0 and r1 in a circle under r2.
+    decided(&ranked(&book, &[[0, 1], [1, 0], [1, 2]]), 1, &[0, 4, 7], &[]);
+}
+
+#[test]
+fn a_pair_through_a_role_that_no_term_uses() {
+    // r0 under r5 under r1 is r0 under r1. R is 6: roles in pairs count.
+    let book = ranked(&linked_by(&[0, 1]), &[[5, 1], [0, 5]]);
+    decided(&book, 1, &[0, 2, 3], &[]);
+    // The elements are the types 0, 2 and 3. r5 has no bound of its own, and that of r1. r2 to r4 have none at all.
+    let links = ["000 000 111", "000 111 111", "111 111 111", "111 111 111", "111 111 111", "000 111 111"];
+    let links = links.concat().bytes().filter(u8::is_ascii_digit).map(|digit| digit - b'0').collect::<Vec<u8>>();
+    let sheet = [&from_hex("01 01 03 00 06 00 00 0C 00 0C 00 42")[..], &links].concat();
+    answers(&book, &[], Call::WriteSheet { marks: 4, placement: 16, sheet: 70 }, [0, 66], &sheet);
+    answers(&book, &sheet, Call::WorkOut { grid: 9 }, [0, 0], &[1, 0, 0, 1, 0, 1, 1, 1, 1]);
+    // Either byte of a pair counts: with R 2 the sheet is not this book's.
+    for pairs in [[[5, 1]], [[1, 5]]] {
+        let short = [&from_hex("01 01 01 00 02 00 00 0C 00 0C 00 0E")[..], &[0, 0]].concat();
+        let right = [&from_hex("01 01 01 00 06 00 00 0C 00 0C 00 12")[..], &[0; 6]].concat();
+        let book = linked_by(&[0, 1]);
+        answers(&book, &short, Call::WorkOut { grid: 3 }, [0, 0], &[1, 0, 0]);
+        answers(&ranked(&book, &pairs), &short, Call::WorkOut { grid: 3 }, [13], &[]);
+        answers(&ranked(&book, &pairs), &right, Call::WorkOut { grid: 3 }, [0, 0], &[1, 0, 0]);
+    }
+}
+
+/// "A link of two candidates is now the least of its own bound and those of all roles reachable upward."
+#[test]
+fn links_under_pairs() {
+    let mut book = Draft::new(4);
+    let a = book.term(NAME, 0, 0);
+    for role in 0..3 {
+        book.term(ALL, role, a);
+    }
+    // To a candidate with A graded 0, "all r A" graded g bounds r by 4 - g. These are graded 1, 3 and 2, so the bounds of
+    // r0, r1 and r2 are 3, 1 and 2, and r3 has none.
+    let from = 5 * (1 + 5 * (3 + 5 * 2));
+    let links = |pairs: &[[u8; 2]], expected: [usize; 4]| {
+        for (role, link) in (0..).zip(expected) {
+            answers(&ranked(&book, pairs), &[], Call::Link { role, from, to: 0 }, [0, link], &[]);
+        }
+    };
+    links(&[], [3, 1, 2, 4]);
+    links(&[[0, 2]], [2, 1, 2, 4]);
+    links(&[[0, 2], [2, 1]], [1, 1, 1, 4]);
+    links(&[[1, 2], [2, 0]], [3, 1, 2, 4]); // what is above has no lower bound
+    links(&[[0, 3], [3, 2]], [2, 1, 2, 2]); // through r3, which takes the bound of r2
+    links(&[[3, 0], [3, 2]], [3, 1, 2, 2]); // the least of two above
+    links(&[[0, 2], [2, 0]], [2, 1, 2, 4]);
+    links(&[[0, 3], [3, 1], [1, 0]], [1, 1, 2, 1]);
+    links(&[[7, 1], [0, 7]], [1, 1, 2, 4]);
+}
+
+/// "The verdict, list and later questions cover only interpretations that meet every pair."
+#[test]
+fn rules_without_a_model_under_pairs() {
+    // Everything has a link by r0, and nothing one by r1.
+    let mut book = linked_by(&[0, 1]);
+    let bottom = book.term(BOTTOM, 0, 0);
+    book.rules = vec![[0, 1], [2, bottom]];
+    decided(&book, 1, &[1], &[]);
+    decided(&ranked(&book, &[[1, 0]]), 1, &[1], &[]);
+    decided(&ranked(&book, &[[0, 1]]), 3, &[], &[]);
+}
+
+/// "On a sheet, "meets" asks for every pair too, and a broken pair is named after the rules and before the claims, with its
+/// lowest first, then second element."
+#[test]
+fn a_pair_that_a_sheet_breaks() {
+    // A not greater than B; individual 0 is in A at least 2, and linked to itself by r0 at least 2; r0 under r1, r2 under r0.
+    let mut book = Draft::new(2);
+    let [a, b] = [0, 1].map(|name| book.term(NAME, name, 0));
+    book.rules = vec![[a, b]];
+    book.memberships = vec![[0, a, AT_LEAST, 2]];
+    book.links = vec![[0, 0, 0, 2]];
+    let book = ranked(&book, &[[0, 1], [2, 0]]);
+    // Two elements with A and B; then the links of r0, r1 and r2, from 0 to 0, 0 to 1, 1 to 0 and 1 to 1; individual 0 is at 0.
+    let works_out = |names: [u8; 4], links: [[u8; 4]; 3], expected: [usize; 5]| {
+        let head = from_hex("01 02 02 02 03 01 00 0C 00 10 00 1C");
+        let sheet = [&head[..], &names, &links.concat(), &[0]].concat();
+        answers(&book, &sheet, Call::WorkOut { grid: 4 }, expected, &names);
+    };
+    let met = [2, 2, 0, 0];
+    works_out(met, [[2, 1, 0, 1], [2, 1, 1, 1], [1, 0, 0, 1]], [0, 0, 0, 0, 0]);
+    // Pair 0 from 1 to 1 only.
+    works_out(met, [[2, 1, 0, 2], [2, 1, 1, 1], [1, 0, 0, 1]], [0, 4, 0, 1, 1]);
+    // From 1 to 0 and to 1: the lowest second element.
+    works_out(met, [[2, 1, 2, 2], [2, 1, 1, 1], [1, 0, 0, 1]], [0, 4, 0, 1, 0]);
+    // From 0 to 1 and from 1 to 0: the lowest first element, although the second one is then higher.
+    works_out(met, [[2, 2, 2, 1], [2, 1, 1, 1], [1, 0, 0, 1]], [0, 4, 0, 0, 1]);
+    // Pair 1 from 0 to 1 only.
+    works_out(met, [[2, 1, 0, 1], [2, 1, 1, 1], [1, 2, 0, 1]], [0, 4, 1, 0, 1]);
+    // Both, pair 1 at lower elements: the first pair.
+    works_out(met, [[2, 1, 0, 2], [2, 1, 1, 1], [2, 2, 0, 1]], [0, 4, 0, 1, 1]);
+
+    // Both claims are broken too: the pair is named.
+    let neither = [1, 2, 0, 0];
+    works_out(neither, [[1, 1, 2, 1], [2, 1, 1, 1], [1, 0, 0, 1]], [0, 4, 0, 1, 0]);
+    works_out(neither, [[1, 1, 0, 1], [2, 1, 1, 1], [1, 0, 0, 1]], [0, 2, 0, 0, 0]);
+    works_out(met, [[1, 1, 0, 1], [2, 1, 1, 1], [1, 0, 0, 1]], [0, 3, 0, 0, 0]);
+    // The rule is broken too, at element 1: the rule is named.
+    works_out([2, 2, 1, 0], [[1, 1, 2, 1], [2, 1, 1, 1], [1, 0, 0, 1]], [0, 1, 0, 1, 0]);
+}
+
+/// Head of 22 bytes, at most 64 pairs, body last.
+#[test]
+fn the_bytes_of_edition_2() {
+    let bytes = from_hex(
+        "02 02  00 16 00 02  00 1C 00 02  00 20 00 01  00 24 00 00  00 24 00 02
+         00 00 00  01 00 00   00 01  01 00   00 00 00 01   00 07  03 03",
+    );
+    assert_eq!(ranked(&printed_book(), &[[0, 7], [3, 3]]).bytes(), bytes);
+    decided(&ranked(&printed_book(), &[[0, 7], [3, 3]]), 1, &[1], &[1]);
+}
+
+#[test]
+fn edition_2_without_pairs_answers_as_edition_1() {
+    let mut both = linked_to_itself(1);
+    both.term(SOME, 3, 0);
+    let too_wide = Draft { terms: (0..15).map(|name| [NAME, name, 0]).collect(), ..Draft::new(1) };
+    let books =
+        [Draft::new(1), printed_book(), linked_to_itself(1), linked_to_itself(2), linked_by(&[0, 1]), both, too_wide];
+    let sheets = [
+        from_hex("01 02 01 01 00 01 00 0C 00 0D 00 0D 01 00"),
+        from_hex("01 02 01 01 01 01 00 0C 00 0D 00 0E 01 00 00"),
+        from_hex("01 02 01 01 04 01 00 0C 00 0D 00 11 01 01 02 00 02 00"),
+        vec![],
+    ];
+    for (book, sheet) in books.iter().flat_map(|book| sheets.iter().map(move |sheet| (book, sheet))) {
+        let calls = [
+            Call::Check,
+            Call::Count,
+            Call::Decide { marks: 27, placement: 16 },
+            Call::WriteSheet { marks: 27, placement: 16, sheet: 2000 },
+            Call::WorkOut { grid: 4 },
+            Call::Grade { candidate: 1, term: 1 },
+            Call::Link { role: 0, from: 1, to: 2 },
+        ];
+        for (side, call) in SIDES.into_iter().flat_map(|side| calls.map(|call| (side, call))) {
+            let [one, two] = [book.bytes(), ranked(book, &[]).bytes()].map(|bytes| ask(side, &bytes, sheet, call));
+            assert_eq!(one.0, two.0, "{} of {book:?}", call.name());
+            assert!(
+                one.1.iter().zip(&two.1).all(|(one, two)| one.contents() == two.contents()),
+                "{call:?} of {book:?}"
+            );
+        }
+    }
+}
+
+/// "Check 1 reads 22 to 982 when byte 0 is 2, and check 2 admits 2."
+#[test]
+fn lengths_by_edition() {
+    answers_check(&[], 1);
+    // Zeros behind byte 0: a book that passes 1 and 2 is refused 3.
+    let bounds = [(0, 18, 850, 2), (1, 18, 850, 3), (2, 22, 982, 3), (3, 18, 850, 2), (255, 18, 850, 2)];
+    for (first, least, most, passed) in bounds {
+        for length in [1, 17, 18, 19, 20, 21, 22, 23, 849, 850, 851, 981, 982, 983, 1000] {
+            let mut book = vec![0; length];
+            book[0] = first;
+            answers_check(&book, if (least..=most).contains(&length) { passed } else { 1 });
+        }
+    }
+    // The longest, with 64 records in each section.
+    let mut longest = Draft::new(1);
+    (longest.terms, longest.rules) = (vec![[TOP, 0, 0]; 64], vec![[0, 0]; 64]);
+    (longest.memberships, longest.links) = (vec![[0, 0, 0, 0]; 64], vec![[0, 0, 0, 0]; 64]);
+    assert_eq!((longest.bytes().len(), ranked(&longest, &[[0, 1]; 64]).bytes().len()), (850, zegbiko::BOOK_MOST));
+    answers_check(&longest.bytes(), 0);
+    answers_check(&ranked(&longest, &[[0, 1]; 64]).bytes(), 0);
+    answers_check(&ranked(&longest, &[[0, 1]; 65]).bytes(), 1);
+    // Fewer than 850 bytes, but too many pairs.
+    answers_check(&ranked(&Draft::new(1), &[[0, 1]; 65]).bytes(), 4);
+}
+
+fn answers_check(book: &[u8], expected: usize) {
+    for side in SIDES {
+        assert_eq!(ask(side, book, &[], Call::Check).0, calls::answer([expected]), "{book:?}");
+    }
+}
+
+/// "22 when a pair names a role above 7, straight after 9, on every call on a book."
+#[test]
+fn pairs_that_name_a_role_above_7() {
+    let calls = [
+        Call::Check,
+        Call::Count,
+        Call::Decide { marks: 0, placement: 0 },
+        Call::WriteSheet { marks: 0, placement: 0, sheet: 0 },
+        Call::WorkOut { grid: 0 },
+        Call::Grade { candidate: 1 << 20, term: 100 },
+        Call::Link { role: 8, from: 1 << 20, to: 0 },
+    ];
+    // Too many candidates, which is refused 10, and no sheet, which is refused 13: both come after 22.
+    let mut book = Draft::new(1);
+    book.terms = (0..15).map(|name| [NAME, name, 0]).collect();
+    book.links = vec![[7, 0, 0, 0]];
+    for wrong in [[8, 0], [0, 8], [255, 255]] {
+        let pairs = [[0, 7], [7, 0], wrong, [1, 1]];
+        calls.into_iter().for_each(|call| answers(&ranked(&book, &pairs), &[], call, [22], &[]));
+        let both = Draft { links: vec![[8, 0, 0, 0]], ..ranked(&book, &pairs) };
+        calls.into_iter().for_each(|call| answers(&both, &[], call, [9], &[]));
+    }
+    for (call, refused) in calls.into_iter().zip([0, 10, 10, 10, 13, 10, 10]) {
+        answers(&ranked(&book, &[[0, 7], [7, 0]]), &[], call, [refused], &[]);
+    }
 }
 
 /// The hard books that the plain implementation decides within five seconds.

@@ -17,6 +17,7 @@ use compared::compare;
 use compared::tally::Tally;
 use generate::damage::damaged;
 use generate::random::Random;
+use generate::sheets::raise;
 use plain::book::{Book, Grade};
 use plain::grades::Interpretation;
 use plain::Plain;
@@ -58,6 +59,17 @@ const LARGER: &str = "
     02 1E 00 02  00 1A 01 01  06 2A 00 02  03 0F 01 00  05 19 01 01  01 2C 01 00  04 06 01 02  05 25 01 01
     00 00 00 00  07 07 07 02  02 06 06 02  05 07 02 00  06 07 03 00  01 05 00 01
     01 05 02 01  06 06 06 00  07 04 07 02  06 06 02 02  04 04 07 01  06 00 05 01
+";
+
+/// Edition 2: of three roles each is under the next, the second by way of one that no term uses, and a fifth under itself.
+/// N is 2. Some interpretations break the rule, some each pair but the last, and some each claim.
+const RANKED: &str = "
+    02 02  00 16 00 04  00 22 00 01  00 24 00 01  00 28 00 02  00 30 00 04
+    00 00 00  04 00 00  05 01 00  04 02 00
+    01 03
+    00 02 00 01
+    00 00 01 01  03 01 00 02
+    00 01  01 03  03 02  04 04
 ";
 
 fn from_hex(text: &str) -> Vec<u8> {
@@ -125,9 +137,16 @@ fn changed(bytes: &[u8]) -> impl Iterator<Item = Vec<u8>> + '_ {
 
 #[test]
 fn books() {
-    let mut sweep = Sweep::begin(0, Tally::demanding(&[("refusal", 1..=10), ("outcome", 1..=3)]));
-    for book in [PRINTED, LARGER].map(from_hex) {
-        for book in cut_and_extended(&book, zegbiko::BOOK_MOST + 1).chain(changed(&book)) {
+    let refusals = [("refusal", 1..=10), ("refusal", 22..=22), ("outcome", 1..=3)];
+    let mut sweep = Sweep::begin(0, Tally::demanding(&refusals));
+    for book in [PRINTED, LARGER, RANKED].map(from_hex) {
+        for edition in 0..=3 {
+            let book = [&[edition], &book[1..]].concat();
+            for book in cut_and_extended(&book, zegbiko::BOOK_MOST + 1) {
+                sweep.book(&book);
+            }
+        }
+        for book in changed(&book) {
             sweep.book(&book);
         }
         for _ in 0..5_000 {
@@ -136,41 +155,61 @@ fn books() {
             sweep.book(&[&book[..right], &rest].concat());
         }
     }
-    sets_of_faults(&mut sweep);
-    for _ in 0..20_000 {
-        let book = drawn(&mut sweep.random);
-        sweep.book(&book);
+    sets_of_faults(&mut sweep, 850, None, &FAULTS);
+    sets_of_faults(&mut sweep, 982, Some(vec![[0; 2]]), &FAULTS_OF_EDITION_2);
+    for edition in [1, 2] {
+        for _ in 0..20_000 {
+            let book = drawn(&mut sweep.random, edition);
+            sweep.book(&book);
+        }
     }
     sweep.end("books");
 }
 
-/// For each check from 2 on a byte, and the value with which it says no.
-const FAULTS: [(usize, u8); 9] = [(0, 2), (1, 9), (17, 65), (3, 17), (63, 8), (66, 16), (68, 8), (72, 8), (60, SOME)];
+/// Each check from 2 on, in the order in which they are asked, with a byte and the value with which it says no.
+type Faults = [(usize, usize, u8)];
 
-/// Whatever faults a book has, the first check that says no gives the number.
-fn sets_of_faults(sweep: &mut Sweep) {
-    let mut sound = Draft::new(1);
+const FAULTS: [(usize, usize, u8); 9] =
+    [(2, 0, 3), (3, 1, 9), (4, 17, 65), (5, 3, 17), (6, 63, 8), (7, 66, 16), (8, 68, 8), (9, 72, 8), (10, 60, SOME)];
+
+const FAULTS_OF_EDITION_2: [(usize, usize, u8); 10] = [
+    (2, 0, 3),
+    (3, 1, 9),
+    (4, 21, 65),
+    (5, 19, 81),
+    (6, 67, 8),
+    (7, 70, 16),
+    (8, 72, 8),
+    (9, 76, 8),
+    (22, 81, 8),
+    (10, 64, SOME),
+];
+
+/// Whatever faults a book has, the first check that says no gives the number. It is too long by one byte for check 1.
+fn sets_of_faults(sweep: &mut Sweep, most: usize, pairs: Option<Vec<[u8; 2]>>, faults: &Faults) {
+    let mut sound = Draft { pairs, ..Draft::new(1) };
     sound.terms = (0..14).map(|name| [NAME, name, 0]).chain([[NOT, 0, 0], [TOP, 0, 0]]).collect();
     (sound.rules, sound.memberships, sound.links) = (vec![[0; 2]], vec![[0; 4]], vec![[0; 4]]);
-    for set in 0..1 << 10 {
+    for set in 0..2 << faults.len() {
         let mut book = sound.bytes();
-        let has = |check: usize| set >> (check - 1) & 1 == 1;
-        for (check, (at, value)) in (2..).zip(FAULTS) {
-            if has(check) {
+        let mut found = Vec::new();
+        if set & 1 == 1 {
+            book.resize(most + 1, 0);
+            found.push(1);
+        }
+        for (bit, &(check, at, value)) in (1..).zip(faults) {
+            if set >> bit & 1 == 1 {
                 book[at] = value;
+                found.push(check);
             }
         }
-        if has(1) {
-            book.resize(zegbiko::BOOK_MOST + 1, 0);
-        }
-        let first = (1..=10).find(|&check| has(check)).unwrap_or(0);
-        assert_eq!(sweep.book(&book)[0], first, "{book:?}");
+        assert_eq!(sweep.book(&book)[0], found.first().copied().unwrap_or(0), "{book:?}");
     }
 }
 
 /// The head agrees with the records. Each of their bytes is below its bound, or, one in a hundred, the bound. One book in
 /// four is damaged.
-fn drawn(random: &mut Random) -> Vec<u8> {
+fn drawn(random: &mut Random, edition: u8) -> Vec<u8> {
     let mut book = Draft::new(1 + random.up_to(7));
     let mut byte = |bound: u8| if random.one_in(100) { bound } else { random.up_to(bound.saturating_sub(1)) };
     for number in 0..byte(13) {
@@ -188,6 +227,9 @@ fn drawn(random: &mut Random) -> Vec<u8> {
     book.rules = (0..byte(5)).map(|_| [terms, terms].map(&mut byte)).collect();
     book.memberships = (0..byte(5)).map(|_| [8, terms, 2, grades].map(&mut byte)).collect();
     book.links = (0..byte(5)).map(|_| [8, 8, 8, grades].map(&mut byte)).collect();
+    if edition == 2 {
+        book.pairs = Some((0..byte(5)).map(|_| [8, 8].map(&mut byte)).collect());
+    }
     if random.one_in(4) {
         damaged(random, book.bytes())
     } else {
@@ -197,8 +239,8 @@ fn drawn(random: &mut Random) -> Vec<u8> {
 
 #[test]
 fn sheets() {
-    let mut sweep = Sweep::begin(1, Tally::demanding(&[("refusal", 13..=16), ("verdict", 0..=3)]));
-    for book in [PRINTED, FOUR_DEEP, LARGER].map(from_hex) {
+    let mut sweep = Sweep::begin(1, Tally::demanding(&[("refusal", 13..=16), ("verdict", 0..=4)]));
+    for book in [PRINTED, FOUR_DEEP, LARGER, RANKED].map(from_hex) {
         let plain = Plain::open(&book);
         let read = plain.book().expect("a right book");
         for elements in 1..=4 {
@@ -228,7 +270,7 @@ fn sheets() {
 }
 
 /// A right sheet. Of an element's links for a role all but some three are 0: with many links deep terms have one grade
-/// everywhere.
+/// everywhere. Where the book has pairs, half of the sheets meet them.
 fn right(random: &mut Random, book: &Book, elements: usize) -> Vec<u8> {
     let mut rows = |width, drawn| -> Vec<Vec<Grade>> {
         let mut grade = || if random.below(width) < drawn { random.up_to(book.steps) } else { 0 };
@@ -237,11 +279,16 @@ fn right(random: &mut Random, book: &Book, elements: usize) -> Vec<u8> {
     let names = rows(book.names(), book.names());
     let links = (0..book.roles()).map(|_| rows(elements, 3)).collect();
     let individuals = (0..book.individuals()).map(|_| random.below(elements)).collect();
-    book.sheet_of(&Interpretation { elements, names, links, individuals })
+    let mut sheet = book.sheet_of(&Interpretation { elements, names, links, individuals });
+    if !book.pairs.is_empty() && random.one_in(2) {
+        let links = 12 + elements * book.names()..sheet.len() - book.individuals();
+        raise(&mut sheet[links], elements, &book.pairs);
+    }
+    sheet
 }
 
 /// 64 terms, each but the names over the one before it, and most of them quantified. The sheets of such a book are the
-/// longest, but for their number of elements.
+/// longest, but for their number of elements. Half of the books have pairs.
 fn deep(random: &mut Random) -> Vec<u8> {
     let mut book = Draft::new(1 + random.up_to(7));
     book.terms = [0, 5, 10, 15].map(|name| [NAME, name, 0]).to_vec();
@@ -256,5 +303,8 @@ fn deep(random: &mut Random) -> Vec<u8> {
     book.rules.push([random.up_to(63), random.up_to(63)]);
     book.memberships.push([random.up_to(7), 63, random.up_to(1), random.up_to(book.steps)]);
     book.links.push([7, 7, random.up_to(7), random.up_to(book.steps)]);
+    if random.one_in(2) {
+        book.pairs = Some((0..1 + random.below(4)).map(|_| [random.up_to(7), random.up_to(7)]).collect());
+    }
     book.bytes()
 }

@@ -1,12 +1,14 @@
 //! Books. Those that are decided have few candidates, or rules that leave few, so that the plain implementation ends.
 
-use super::damage::damaged;
+use std::collections::BTreeSet;
+
+use super::damage::{damaged, damaged_by_edition};
 use super::random::Random;
 use crate::support::draft::{Draft, ALL, AND, BOTTOM, NAME, NOT, OR, SOME, TOP};
 
 const MOST_CANDIDATES: usize = 16_384;
 
-/// Any book: one in four damaged, the others right but for those past a limit.
+/// Any book of edition 1: one in four damaged, the others right but for those past a limit.
 pub fn any(random: &mut Random) -> Vec<u8> {
     let book = match random.below(200) {
         0..=74 => mixed(random),
@@ -22,6 +24,30 @@ pub fn any(random: &mut Random) -> Vec<u8> {
         _ => {
             let book = random.pick(&[mixed, mixed, chain, full])(random);
             return damaged(random, book.bytes());
+        }
+    };
+    book.bytes()
+}
+
+/// Any book of edition 2, likewise.
+pub fn ranked(random: &mut Random) -> Vec<u8> {
+    let book = match random.below(200) {
+        0..=24 => with_pairs(random, mixed),
+        25..=69 => with_pairs(random, layered),
+        70..=84 => with_pairs(random, web),
+        85..=94 => with_pairs(random, chain),
+        95..=104 => with_pairs(random, counter),
+        105..=119 => full_ranked(random),
+        120..=129 => of_64_survivors_ranked(random),
+        130 => with_pairs(random, widest),
+        131..=133 => with_pairs(random, too_wide),
+        134..=135 => Draft { pairs: Some(Vec::new()), ..Draft::new(steps(random)) },
+        136..=139 => too_many_ranked(random),
+        140..=144 => wrong_pair(random),
+        _ => {
+            let book = random.pick(&[mixed, mixed, chain, full]);
+            let book = with_pairs(random, book);
+            return damaged_by_edition(random, book.bytes());
         }
     };
     book.bytes()
@@ -178,8 +204,12 @@ fn web(random: &mut Random) -> Draft {
 
 /// 850 bytes: a book filled up to 64 records in each section with such as change nothing.
 fn full(random: &mut Random) -> Draft {
+    filled(random, 64)
+}
+
+fn filled(random: &mut Random, terms: usize) -> Draft {
     let mut book = mixed(random);
-    while book.terms.len() < 64 {
+    while book.terms.len() < terms {
         add_connective(random, &mut book);
     }
     while book.rules.len() < 64 {
@@ -254,4 +284,145 @@ fn too_wide(random: &mut Random) -> Draft {
         add_place(random, &mut book, &[0, 1]);
     }
     book
+}
+
+/// The book with pairs. In three of four first a few roles are dealt out anew to quantified terms and link claims, since
+/// pairs of roles that no term uses say nothing.
+fn with_pairs(random: &mut Random, kind: fn(&mut Random) -> Draft) -> Draft {
+    let mut book = kind(random);
+    if !random.one_in(4) {
+        let few = some_roles(random);
+        let quantified = book.terms.iter_mut().filter(|term| [SOME, ALL].contains(&term[0]));
+        quantified.for_each(|term| term[1] = random.pick(&few));
+        book.links.iter_mut().for_each(|claim| claim[0] = random.pick(&few));
+    }
+    book.pairs = Some(pairs(random, &book));
+    book
+}
+
+/// Quantified terms of several roles over few children, and claims on links of these roles, so that pairs tell.
+fn layered(random: &mut Random) -> Draft {
+    let mut book = Draft::new(random.pick(&[1, 1, 1, 2, 2, 3]));
+    let roles = some_roles(random);
+    let (top, bottom, a) = (book.term(TOP, 0, 0), book.term(BOTTOM, 0, 0), book.term(NAME, 0, 0));
+    let not_a = book.term(NOT, a, 0);
+    let some_top = random.one_in(4);
+    for _ in 1..places_within(book.steps, 81) {
+        if some_top {
+            book.term(SOME, random.pick(&roles), top);
+        } else {
+            book.term(random.pick(&[SOME, ALL]), random.pick(&roles), random.pick(&[top, a, not_a]));
+        }
+    }
+    let [one, other] = [not_a + 1, not_a + 2];
+    match random.below(4) {
+        0 => book.rules.extend([[top, one], [other, bottom]]), // one fully everywhere, the other nowhere: pairs may forbid that
+        1 => book.rules.push([any_term(random, &book), any_term(random, &book)]),
+        _ => {}
+    }
+    for _ in 0..random.pick(&[0, 1, 2, 4]) {
+        let (individual, term) = (random.up_to(1), any_term(random, &book));
+        book.memberships.push([individual, term, random.up_to(1), random.up_to(book.steps)]);
+    }
+    for _ in 0..random.pick(&[0, 1, 2]) {
+        let (role, from, to) = (random.pick(&roles), random.up_to(1), random.up_to(1));
+        book.links.push([role, from, to, 1 + random.up_to(book.steps - 1)]);
+    }
+    book
+}
+
+/// Two to four roles, in any order.
+fn some_roles(random: &mut Random) -> Vec<u8> {
+    let mut roles = in_any_order(random, 0..8);
+    roles.truncate(2 + random.below(3));
+    roles
+}
+
+fn in_any_order(random: &mut Random, items: impl IntoIterator<Item = u8>) -> Vec<u8> {
+    let mut left: Vec<u8> = items.into_iter().collect();
+    (0..left.len()).map(|_| left.swap_remove(random.below(left.len()))).collect()
+}
+
+/// Pairs of the roles that the book's terms and claims have, two at least, and of others.
+fn pairs(random: &mut Random, book: &Draft) -> Vec<[u8; 2]> {
+    let quantified = book.terms.iter().filter(|term| [SOME, ALL].contains(&term[0])).map(|term| term[1]);
+    let used: BTreeSet<u8> = quantified.chain(book.links.iter().map(|claim| claim[0])).collect();
+    let mut others = in_any_order(random, (0..8).filter(|role| !used.contains(role)));
+    let mut roles = in_any_order(random, used);
+    while roles.len() < 2 {
+        roles.extend(others.pop());
+    }
+    let upward: Vec<[u8; 2]> = roles.windows(2).map(|two| [two[0], two[1]]).collect();
+    let circle = [&upward[..], &[[roles[roles.len() - 1], roles[0]]]].concat();
+    match random.below(16) {
+        0 => Vec::new(),
+        1..=4 => upward,
+        5 | 6 => circle,
+        7 => [&[[roles[0], roles[0]]], &upward[..]].concat(),
+        8 => [&upward[..], &upward].concat(),
+        9..=11 => through(&upward, &others),
+        12..=14 => (0..1 + random.below(6)).map(|_| [random.up_to(7), random.up_to(7)]).collect(),
+        _ => sixty_four(random, &roles),
+    }
+}
+
+/// Each pair by way of a role that no term and no claim has, as far as there are such.
+fn through(pairs: &[[u8; 2]], others: &[u8]) -> Vec<[u8; 2]> {
+    let by_way = pairs.iter().zip(others).flat_map(|(&[lower, upper], &other)| [[other, upper], [lower, other]]);
+    by_way.chain(pairs.iter().skip(others.len()).copied()).collect()
+}
+
+/// 64 pairs of these roles: each of a role with a later one, or of any two, which soon makes all equal.
+fn sixty_four(random: &mut Random, roles: &[u8]) -> Vec<[u8; 2]> {
+    let ordered = random.one_in(2);
+    let mut pair = || {
+        let (one, other) = (random.below(roles.len()), random.below(roles.len()));
+        let [lower, upper] = if ordered { [one.min(other), one.max(other)] } else { [one, other] };
+        [roles[lower], roles[upper]]
+    };
+    (0..64).map(|_| pair()).collect()
+}
+
+/// 982 bytes; or 850 or 851, no more than in edition 1 or one more, of which edition 2 takes both.
+fn full_ranked(random: &mut Random) -> Draft {
+    match random.below(4) {
+        0 => Draft { pairs: Some(Vec::new()), ..filled(random, 63) },
+        1 => {
+            let mut book = Draft { pairs: Some(Vec::new()), ..full(random) };
+            book.links.pop();
+            book
+        }
+        _ => {
+            let mut book = full(random);
+            let roles = some_roles(random);
+            book.pairs = Some(sixty_four(random, &roles));
+            book
+        }
+    }
+}
+
+/// A book with 65 records in one section, the pairs too.
+fn too_many_ranked(random: &mut Random) -> Draft {
+    if random.one_in(2) {
+        with_pairs(random, too_many)
+    } else {
+        Draft { pairs: Some(vec![[0, 0]; 65]), ..mixed(random) }
+    }
+}
+
+/// A book in which one pair has a role above 7; half of them with too many candidates, which is asked later.
+fn wrong_pair(random: &mut Random) -> Draft {
+    let kind = random.pick(&[mixed, too_wide]);
+    let mut book = with_pairs(random, kind);
+    let pairs = book.pairs.get_or_insert_default();
+    pairs.push([random.up_to(7), random.up_to(7)]);
+    let wrong = random.below(pairs.len());
+    pairs[wrong][random.below(2)] = random.pick(&[8, 8, 9, 15, 16, 128, 255]);
+    book
+}
+
+/// As without pairs, since these are about roles that no term has; the highest of them has no claim either.
+fn of_64_survivors_ranked(random: &mut Random) -> Draft {
+    let pairs = random.pick(&[&[[7, 7]][..], &[[6, 7], [7, 6]], &[[7, 6]]]).to_vec();
+    Draft { pairs: Some(pairs), ..of_64_survivors(random) }
 }

@@ -21,6 +21,25 @@ pub fn damaged(random: &mut Random, mut bytes: Vec<u8>) -> Vec<u8> {
     bytes
 }
 
+/// Damage where the editions differ: byte 0, the head, the fifth entry, the greatest length; or any.
+pub fn damaged_by_edition(random: &mut Random, mut bytes: Vec<u8>) -> Vec<u8> {
+    match random.below(16) {
+        0 => bytes[0] = random.pick(&[0, 1, 3]),
+        1 => bytes.truncate(17 + random.below(6)),
+        2 | 3 => {
+            bytes.resize(random.pick(&[850, 851, 982, 983]), 0);
+            bytes[0] = random.pick(&[1, 2, 2, 3]);
+        }
+        4 | 5 => {
+            let position = 18 + random.below(4);
+            bytes[position] = random.pick(&[0, 1, 64, 65, bytes[position].wrapping_add(1), bytes[position] ^ 2]);
+        }
+        6 => drop(bytes.drain(18..22)),
+        _ => return damaged(random, bytes),
+    }
+    bytes
+}
+
 fn change(random: &mut Random, bytes: &mut [u8]) {
     let position = position(random, bytes.len());
     bytes[position] = match random.below(4) {

@@ -10,6 +10,11 @@ impl Random {
         random
     }
 
+    /// As many others for each case, such as no small seed has.
+    pub fn of_edition_2(seed: u64, case: u64) -> Random {
+        Random::of(!seed, case)
+    }
+
     fn next(&mut self) -> u64 {
         self.0 = self.0.wrapping_add(0x9E37_79B9_7F4A_7C15);
         let mut z = self.0;

@@ -2,7 +2,7 @@
 
 use super::damage::damaged;
 use super::random::Random;
-use crate::plain::book::Book;
+use crate::plain::book::{Book, Pair};
 
 /// The numbers in a sheet's head.
 #[derive(Clone, Copy)]
@@ -14,7 +14,8 @@ struct Head {
     individuals: usize,
 }
 
-/// Any sheet: half of them right, the others wrong in one number or damaged.
+/// Any sheet: half of them right, the others wrong in one number or damaged. Of the right ones for a book with pairs one
+/// in three is left as drawn, which breaks most pairs; the others meet the pairs, but for a link in half of them.
 pub fn any(random: &mut Random, book: &Book) -> Vec<u8> {
     let elements = match random.below(50) {
         0 => 64,
@@ -30,7 +31,32 @@ pub fn any(random: &mut Random, book: &Book) -> Vec<u8> {
             let sheet = right(random, head);
             damaged(random, sheet)
         }
-        _ => right(random, head),
+        _ if book.pairs.is_empty() => right(random, head),
+        _ => {
+            let mut sheet = right(random, head);
+            let links = 12 + usize::from(elements) * head.names..sheet.len() - head.individuals;
+            let fate = random.below(3);
+            if fate > 0 {
+                raise(&mut sheet[links.clone()], usize::from(elements), &book.pairs);
+            }
+            if fate > 1 {
+                sheet[links.start + random.below(links.len())] = random.up_to(book.steps);
+            }
+            sheet
+        }
+    }
+}
+
+/// Raises upper roles' links, given as on a sheet, until all pairs are met.
+pub fn raise(links: &mut [u8], elements: usize, pairs: &[Pair]) {
+    let square = elements * elements;
+    let mut before = Vec::new();
+    while before != links {
+        before = links.to_vec();
+        for (pair, at) in pairs.iter().flat_map(|pair| (0..square).map(move |at| (pair, at))) {
+            let [lower, upper] = [pair.lower, pair.upper].map(|role| usize::from(role) * square + at);
+            links[upper] = links[upper].max(links[lower]);
+        }
     }
 }
 

@@ -1,4 +1,4 @@
-//! "The book": bytes to plain values with checks 1 to 9, and the counts A, R and I.
+//! "The book": bytes to plain values with checks 1 to 9 and 22, and the counts A, R and I.
 
 use std::collections::BTreeSet;
 
@@ -42,38 +42,60 @@ pub struct LinkClaim {
     pub grade: Grade,
 }
 
+/// "An interpretation meets a pair when the lower role's link never exceeds the upper's."
+pub struct Pair {
+    pub lower: u8,
+    pub upper: u8,
+}
+
 pub struct Book {
     pub steps: Grade,
     pub terms: Vec<Term>,
     pub rules: Vec<Rule>,
     pub memberships: Vec<Membership>,
     pub links: Vec<LinkClaim>,
+    /// None in edition 1.
+    pub pairs: Vec<Pair>,
+    /// By role 0 to 7: itself and the roles reachable upward.
+    pub upward: Vec<BTreeSet<u8>>,
 }
 
 impl Book {
     pub fn read(bytes: &[u8]) -> Result<Book, u8> {
-        ask(1, (18..=850).contains(&bytes.len()))?;
-        ask(2, bytes[0] == 1)?;
+        // "Check 1 reads 22 to 982 when byte 0 is 2, and check 2 admits 2."
+        let edition = bytes.first().copied();
+        let allowed = if edition == Some(2) { 22..=982 } else { 18..=850 };
+        ask(1, allowed.contains(&bytes.len()))?;
+        ask(2, edition == Some(1) || edition == Some(2))?;
         let steps = bytes[1];
         ask(3, (1..=8).contains(&steps))?;
 
+        // "Edition 2 books have a fifth contents entry (head 22 bytes, at most 64 pairs .., body last)."
+        let widths: &[usize] = if edition == Some(2) { &[3, 2, 4, 4, 2] } else { &[3, 2, 4, 4] };
+        let head = 2 + 4 * widths.len();
         let (offsets, counts): (Vec<_>, Vec<_>) =
-            bytes[2..18].chunks(4).map(|entry| (number(&entry[..2]), number(&entry[2..]))).unzip();
+            bytes[2..head].chunks(4).map(|entry| (number(&entry[..2]), number(&entry[2..]))).unzip();
         ask(4, counts.iter().all(|&count| count <= 64))?;
-        let ends = ends(18, &[3 * counts[0], 2 * counts[1], 4 * counts[2], 4 * counts[3]]);
-        ask(5, offsets == [18, ends[0], ends[1], ends[2]] && bytes.len() == ends[3])?;
-        let section = |i: usize, width| bytes[offsets[i]..ends[i]].chunks(width);
+        let lengths: Vec<usize> = widths.iter().zip(counts).map(|(width, count)| width * count).collect();
+        let ends = ends(head, &lengths);
+        let (end, starts) = ends.split_last().expect("a section");
+        ask(5, offsets == [&[head], starts].concat() && bytes.len() == *end)?;
+        let section = |i: usize| bytes[offsets[i]..ends[i]].chunks(widths[i]);
 
-        let terms = section(0, 3).enumerate().map(|(number, record)| term(number, record));
+        let terms = section(0).enumerate().map(|(number, record)| term(number, record));
         let terms: Vec<Term> = terms.collect::<Option<_>>().ok_or(6)?;
         ask(6, no_name_twice(&terms))?;
-        let rules = section(1, 2).map(|record| rule(terms.len(), record));
+        let rules = section(1).map(|record| rule(terms.len(), record));
         let rules = rules.collect::<Option<_>>().ok_or(7)?;
-        let memberships = section(2, 4).map(|record| membership(steps, terms.len(), record));
+        let memberships = section(2).map(|record| membership(steps, terms.len(), record));
         let memberships = memberships.collect::<Option<_>>().ok_or(8)?;
-        let links = section(3, 4).map(|record| link_claim(steps, record));
+        let links = section(3).map(|record| link_claim(steps, record));
         let links = links.collect::<Option<_>>().ok_or(9)?;
-        Ok(Book { steps, terms, rules, memberships, links })
+        // "22 when a pair names a role above 7, straight after 9, on every call on a book."
+        let pairs: Option<Vec<Pair>> = (4..widths.len()).flat_map(section).map(pair).collect();
+        let pairs = pairs.ok_or(22)?;
+        let upward = (0..=7).map(|role| upward(role, &pairs)).collect();
+        Ok(Book { steps, terms, rules, memberships, links, pairs, upward })
     }
 
     /// A: one more than the highest name number, or 0.
@@ -84,14 +106,15 @@ impl Book {
         }))
     }
 
-    /// R: one more than the highest role number in terms and claims, or 0.
+    /// R: one more than the highest role number in terms, claims and pairs, or 0.
     pub fn roles(&self) -> usize {
         let in_terms = self.terms.iter().filter_map(|term| match *term {
             Term::Some(role, _) | Term::All(role, _) => Some(role),
             _ => None,
         });
         let in_claims = self.links.iter().map(|claim| claim.role);
-        one_more_than_highest(in_terms.chain(in_claims).map(usize::from))
+        let in_pairs = self.pairs.iter().flat_map(|pair| [pair.lower, pair.upper]);
+        one_more_than_highest(in_terms.chain(in_claims).chain(in_pairs).map(usize::from))
     }
 
     /// I: one more than the highest individual claimed, or 0.
@@ -158,6 +181,23 @@ fn membership(steps: Grade, terms: usize, record: &[u8]) -> Option<Membership> {
 fn link_claim(steps: Grade, record: &[u8]) -> Option<LinkClaim> {
     let (role, from, to, grade) = (record[0], usize::from(record[1]), usize::from(record[2]), record[3]);
     (role <= 7 && from <= 7 && to <= 7 && grade <= steps).then_some(LinkClaim { role, from, to, grade })
+}
+
+fn pair(record: &[u8]) -> Option<Pair> {
+    let (lower, upper) = (record[0], record[1]);
+    (lower <= 7 && upper <= 7).then_some(Pair { lower, upper })
+}
+
+/// A role and all that are reachable from it upward, by a search: each role met for the first time leads on to the upper
+/// roles of its pairs. So circles end, and roles that no term uses lead on as the others do.
+fn upward(role: u8, pairs: &[Pair]) -> BTreeSet<u8> {
+    let (mut reached, mut ahead) = (BTreeSet::new(), vec![role]);
+    while let Some(role) = ahead.pop() {
+        if reached.insert(role) {
+            ahead.extend(pairs.iter().filter(|pair| pair.lower == role).map(|pair| pair.upper));
+        }
+    }
+    reached
 }
 
 fn one_more_than_highest(numbers: impl Iterator<Item = usize>) -> usize {

@@ -28,8 +28,14 @@ impl Book {
         row
     }
 
-    /// The link between two types: the greatest that every quantified term of the role allows. All of them allow 0.
+    /// "A link of two candidates is now the least of its own bound and those of all roles reachable upward."
     pub fn link(&self, role: u8, first: &[Grade], second: &[Grade]) -> Grade {
+        let upward = self.upward[usize::from(role)].iter();
+        upward.map(|&role| self.bound(role, first, second)).min().expect("the role itself")
+    }
+
+    /// The bound of one role: the greatest link that each of its quantified terms allows. All of them allow 0.
+    pub fn bound(&self, role: u8, first: &[Grade], second: &[Grade]) -> Grade {
         (0..=self.steps).rev().find(|&r| self.allows(role, r, first, second)).expect("a link of 0 is allowed")
     }
 

@@ -1,6 +1,6 @@
-//! "Chain and terms": interpretations, the grades of all terms at all elements, and what it is to meet a rule or a claim.
+//! "Chain and terms": interpretations, the grades of all terms at all elements, and what it is to meet a rule, a pair or a claim.
 
-use super::book::{Book, Grade, LinkClaim, Membership, Sense, Term};
+use super::book::{Book, Grade, LinkClaim, Membership, Pair, Sense, Term};
 
 /// A finite interpretation on a book's chain.
 pub struct Interpretation {
@@ -16,6 +16,7 @@ pub struct Interpretation {
 pub enum Verdict {
     Meets,
     BreaksRule { rule: usize, element: usize },
+    BreaksPair { pair: usize, first: usize, second: usize },
     BreaksMembership { claim: usize },
     BreaksLink { claim: usize },
 }
@@ -62,11 +63,17 @@ impl Book {
         }
     }
 
-    /// The first rule broken with its lowest element, else the first membership claim broken, else the first link claim.
+    /// The first rule broken with its lowest element, else the first membership claim broken, else the first link claim;
+    /// "a broken pair is named after the rules and before the claims, with its lowest first, then second element".
     pub fn verdict(&self, world: &Interpretation, rows: &[Vec<Grade>]) -> Verdict {
         for (number, rule) in self.rules.iter().enumerate() {
             if let Some(element) = rows.iter().position(|row| row[rule.left] > row[rule.right]) {
                 return Verdict::BreaksRule { rule: number, element };
+            }
+        }
+        for (number, pair) in self.pairs.iter().enumerate() {
+            if let Some((first, second)) = pair.broken_at(world) {
+                return Verdict::BreaksPair { pair: number, first, second };
             }
         }
         let row_of = |individual: usize| &rows[world.individuals[individual]];
@@ -80,6 +87,15 @@ impl Book {
             Some(claim) => Verdict::BreaksLink { claim },
             None => Verdict::Meets,
         }
+    }
+}
+
+impl Pair {
+    /// The lowest element from which the lower role's link exceeds the upper's, and the lowest to which it then does.
+    fn broken_at(&self, world: &Interpretation) -> Option<(usize, usize)> {
+        let [lower, upper] = [self.lower, self.upper].map(|role| &world.links[usize::from(role)]);
+        let all = (0..world.elements).flat_map(|first| (0..world.elements).map(move |second| (first, second)));
+        all.into_iter().find(|&(first, second)| lower[first][second] > upper[first][second])
     }
 }
 

@@ -1,6 +1,6 @@
-//! The specification (document 01) once more, written from its text alone and the obvious way: bytes are read into plain
-//! values, each sentence is a function, and speed is no aim but in placing. It is the other side of the differential
-//! test and of the sweeps.
+//! The specification (document 01, and P1 of document 02) once more, written from its text alone and the obvious way:
+//! bytes are read into plain values, each sentence is a function, and speed is no aim but in placing. It is the other
+//! side of the differential test and of the sweeps.
 //!
 //! A refusal is its number; `ask` is the rule "the first no gives the number".
 
@@ -38,24 +38,25 @@ impl Plain {
         Plain { book: Book::read(bytes), eliminated: OnceCell::new(), decision: OnceCell::new() }
     }
 
-    /// The book, after checks 1 to 9.
+    /// The book, after checks 1 to 9 and 22.
     pub fn book(&self) -> Result<&Book, u8> {
         self.book.as_ref().map_err(|&number| number)
     }
 
-    /// The number of candidates, after checks 1 to 10.
+    /// The number of candidates, after check 10 too.
     pub fn count(&self) -> Result<usize, u8> {
         self.book()?.candidates().ok_or(10)
     }
 
-    /// What elimination leaves, after checks 1 to 10.
+    /// What elimination leaves, after the same checks.
     pub fn eliminated(&self) -> Result<&Eliminated, u8> {
         self.count()?;
         let book = self.book()?;
         Ok(self.eliminated.get_or_init(|| book.eliminate()))
     }
 
-    fn decision(&self) -> Result<&Decision, u8> {
+    /// Outcome and placement, after the same checks.
+    pub fn decision(&self) -> Result<&Decision, u8> {
         let (book, survivors) = (self.book()?, &self.eliminated()?.survivors);
         Ok(self.decision.get_or_init(|| book.place(survivors)))
     }

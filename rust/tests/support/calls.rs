@@ -43,13 +43,13 @@ impl Call {
 }
 
 /// The fields of the C answer in order, `refusal` first; 0 where it has none.
-pub type Answer = [usize; 4];
+pub type Answer = [usize; 5];
 
-fn answer(result: Result<[usize; 3], u8>) -> Answer {
-    match result {
-        Ok([first, second, third]) => [0, first, second, third],
-        Err(number) => [number.into(), 0, 0, 0],
-    }
+/// The answer that begins with these fields.
+pub fn answer<const N: usize>(fields: [usize; N]) -> Answer {
+    let mut answer = [0; 5];
+    answer[..N].copy_from_slice(&fields);
+    answer
 }
 
 /// A side of the comparison: takes a book, a sheet (where the call does), the call and its buffers.
@@ -57,56 +57,59 @@ pub type Side = fn(&[u8], &[u8], Call, &mut [Buffer]) -> Answer;
 
 /// The plain implementation.
 pub fn plain(book: &Plain, sheet: &[u8], call: Call, buffers: &mut [Buffer]) -> Answer {
-    answer(match (call, buffers) {
-        (Call::Check, _) => book.book().map(|_| [0; 3]),
-        (Call::Count, _) => book.count().map(|candidates| [candidates, 0, 0]),
+    let result = match (call, buffers) {
+        (Call::Check, _) => book.book().map(|_| answer([0])),
+        (Call::Count, _) => book.count().map(|candidates| answer([0, candidates])),
         (Call::Decide { .. }, [marks, placement]) => {
             book.decide(marks.contents_mut(), placement.contents_mut()).map(|(decision, survivors)| match decision {
-                Decision::HoldsTogether(_) => [1, survivors, 0],
-                Decision::ClaimsFail => [2, survivors, 0],
-                Decision::NoModel => [3, survivors, 0],
+                Decision::HoldsTogether(_) => answer([0, 1, survivors]),
+                Decision::ClaimsFail => answer([0, 2, survivors]),
+                Decision::NoModel => answer([0, 3, survivors]),
             })
         }
         (Call::WriteSheet { .. }, [marks, placement, sheet]) => book
             .write_sheet(marks.contents_mut(), placement.contents_mut(), sheet.contents_mut())
-            .map(|length| [length, 0, 0]),
+            .map(|length| answer([0, length])),
         (Call::WorkOut { .. }, [grid]) => book.work_out(sheet, grid.contents_mut()).map(|verdict| match verdict {
-            Verdict::Meets => [0, 0, 0],
-            Verdict::BreaksRule { rule, element } => [1, rule, element],
-            Verdict::BreaksMembership { claim } => [2, claim, 0],
-            Verdict::BreaksLink { claim } => [3, claim, 0],
+            Verdict::Meets => answer([0, 0]),
+            Verdict::BreaksRule { rule, element } => answer([0, 1, rule, element]),
+            Verdict::BreaksMembership { claim } => answer([0, 2, claim]),
+            Verdict::BreaksLink { claim } => answer([0, 3, claim]),
+            Verdict::BreaksPair { pair, first, second } => answer([0, 4, pair, first, second]),
         }),
-        (Call::Grade { candidate, term }, _) => book.grade(candidate, term).map(|grade| [grade.into(), 0, 0]),
-        (Call::Link { role, from, to }, _) => book.link(role, from, to).map(|link| [link.into(), 0, 0]),
+        (Call::Grade { candidate, term }, _) => book.grade(candidate, term).map(|grade| answer([0, grade.into()])),
+        (Call::Link { role, from, to }, _) => book.link(role, from, to).map(|link| answer([0, link.into()])),
         _ => unreachable!("a call comes with its buffers"),
-    })
+    };
+    result.unwrap_or_else(|number| answer([number.into()]))
 }
 
 /// The library, by the safe wrapper.
 pub fn wrapped(book: &[u8], sheet: &[u8], call: Call, buffers: &mut [Buffer]) -> Answer {
     let result = match (call, buffers) {
-        (Call::Check, _) => zegbiko::check(book).map(|()| [0; 3]),
-        (Call::Count, _) => zegbiko::count(book).map(|candidates| [candidates, 0, 0]),
+        (Call::Check, _) => zegbiko::check(book).map(|()| answer([0])),
+        (Call::Count, _) => zegbiko::count(book).map(|candidates| answer([0, candidates])),
         (Call::Decide { .. }, [marks, placement]) => {
             zegbiko::decide(book, marks.contents_mut(), placement.contents_mut())
-                .map(|decided| [decided.outcome as usize, decided.survivors, 0])
+                .map(|decided| answer([0, decided.outcome as usize, decided.survivors]))
         }
         (Call::WriteSheet { .. }, [marks, placement, sheet]) => {
             zegbiko::write_sheet(book, marks.contents_mut(), placement.contents_mut(), sheet.contents_mut())
-                .map(|length| [length, 0, 0])
+                .map(|length| answer([0, length]))
         }
         (Call::WorkOut { .. }, [grid]) => zegbiko::work_out(book, sheet, grid.contents_mut()).map(|v| match v {
-            zegbiko::Verdict::Meets => [0, 0, 0],
-            zegbiko::Verdict::BreaksRule { rule, element } => [1, rule, element],
-            zegbiko::Verdict::BreaksMembership { claim } => [2, claim, 0],
-            zegbiko::Verdict::BreaksLink { claim } => [3, claim, 0],
+            zegbiko::Verdict::Meets => answer([0, 0]),
+            zegbiko::Verdict::BreaksRule { rule, element } => answer([0, 1, rule, element]),
+            zegbiko::Verdict::BreaksMembership { claim } => answer([0, 2, claim]),
+            zegbiko::Verdict::BreaksLink { claim } => answer([0, 3, claim]),
+            zegbiko::Verdict::BreaksPair { pair, first, second } => answer([0, 4, pair, first, second]),
             _ => unreachable!("a verdict that the tests do not know"),
         }),
-        (Call::Grade { candidate, term }, _) => zegbiko::grade(book, candidate, term).map(|g| [g.into(), 0, 0]),
-        (Call::Link { role, from, to }, _) => zegbiko::link(book, role, from, to).map(|link| [link.into(), 0, 0]),
+        (Call::Grade { candidate, term }, _) => zegbiko::grade(book, candidate, term).map(|g| answer([0, g.into()])),
+        (Call::Link { role, from, to }, _) => zegbiko::link(book, role, from, to).map(|link| answer([0, link.into()])),
         _ => unreachable!("a call comes with its buffers"),
     };
-    answer(result.map_err(zegbiko::Refusal::number))
+    result.unwrap_or_else(|refusal| answer([refusal.number().into()]))
 }
 
 /// The library, by the C calls: a refused one must have 0 in every other field.
@@ -116,33 +119,33 @@ pub fn raw(book: &[u8], sheet: &[u8], call: Call, buffers: &mut [Buffer]) -> Ans
     // SAFETY: each pointer and length is that of one slice, and no two of them overlap.
     unsafe {
         match (call, buffers) {
-            (Call::Check, _) => [raw::zegbiko_check(pointer, length).into(), 0, 0, 0],
+            (Call::Check, _) => answer([raw::zegbiko_check(pointer, length).into()]),
             (Call::Count, _) => {
                 let counted = raw::zegbiko_count(pointer, length);
-                [counted.refusal.into(), counted.candidates as usize, 0, 0]
+                answer([counted.refusal.into(), counted.candidates as usize])
             }
             (Call::Decide { .. }, [marks, placement]) => {
                 let ((m, m_length), (p, p_length)) = (out(marks), out(placement));
                 let decided = raw::zegbiko_decide(pointer, length, m, m_length, p, p_length);
-                [decided.refusal.into(), decided.outcome.into(), decided.survivors, 0]
+                answer([decided.refusal.into(), decided.outcome.into(), decided.survivors])
             }
             (Call::WriteSheet { .. }, [marks, placement, sheet]) => {
                 let ((m, m_length), (p, p_length), (s, s_length)) = (out(marks), out(placement), out(sheet));
                 let written = raw::zegbiko_write_sheet(pointer, length, m, m_length, p, p_length, s, s_length);
-                [written.refusal.into(), written.length, 0, 0]
+                answer([written.refusal.into(), written.length])
             }
             (Call::WorkOut { .. }, [grid]) => {
                 let (g, g_length) = out(grid);
                 let worked = raw::zegbiko_work_out(pointer, length, sheet.as_ptr(), sheet.len(), g, g_length);
-                [worked.refusal.into(), worked.verdict.into(), worked.number, worked.element]
+                answer([worked.refusal.into(), worked.verdict.into(), worked.number, worked.element, worked.second])
             }
             (Call::Grade { candidate, term }, _) => {
                 let graded = raw::zegbiko_grade(pointer, length, candidate, term);
-                [graded.refusal.into(), graded.grade.into(), 0, 0]
+                answer([graded.refusal.into(), graded.grade.into()])
             }
             (Call::Link { role, from, to }, _) => {
                 let graded = raw::zegbiko_link(pointer, length, role, from, to);
-                [graded.refusal.into(), graded.grade.into(), 0, 0]
+                answer([graded.refusal.into(), graded.grade.into()])
             }
             _ => unreachable!("a call comes with its buffers"),
         }

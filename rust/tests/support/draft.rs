@@ -7,6 +7,8 @@ pub struct Draft {
     pub rules: Vec<[u8; 2]>,
     pub memberships: Vec<[u8; 4]>,
     pub links: Vec<[u8; 4]>,
+    /// Lower and upper role; of edition 1 a book has none, and no entry for them.
+    pub pairs: Option<Vec<[u8; 2]>>,
 }
 
 pub const NAME: u8 = 0;
@@ -20,7 +22,7 @@ pub const BOTTOM: u8 = 7;
 
 impl Draft {
     pub fn new(steps: u8) -> Draft {
-        Draft { steps, terms: Vec::new(), rules: Vec::new(), memberships: Vec::new(), links: Vec::new() }
+        Draft { steps, terms: Vec::new(), rules: Vec::new(), memberships: Vec::new(), links: Vec::new(), pairs: None }
     }
 
     /// Adds a term and gives its number.
@@ -31,14 +33,20 @@ impl Draft {
 
     /// The book with a head that agrees with its sections.
     pub fn bytes(&self) -> Vec<u8> {
-        let sections = [
+        let mut sections = vec![
             (self.terms.len(), self.terms.concat()),
             (self.rules.len(), self.rules.concat()),
             (self.memberships.len(), self.memberships.concat()),
             (self.links.len(), self.links.concat()),
         ];
-        let mut bytes = vec![1, self.steps];
-        let mut offset = 18;
+        let edition = if let Some(pairs) = &self.pairs {
+            sections.push((pairs.len(), pairs.concat()));
+            2
+        } else {
+            1
+        };
+        let mut bytes = vec![edition, self.steps];
+        let mut offset = 2 + 4 * sections.len();
         for (count, body) in &sections {
             bytes.extend((offset as u16).to_be_bytes());
             bytes.extend((*count as u16).to_be_bytes());
