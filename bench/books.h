@@ -5,7 +5,7 @@
 #include <stdint.h>
 #include <stdio.h>
 
-enum { MOST_BOOK_BYTES = 850 };
+enum { MOST_BOOK_BYTES = 982 };
 
 typedef struct {
     char name[64];

@@ -1,11 +1,19 @@
 // A book's sections, and the grades of its candidates.
 #include "plain_book.h"
-#include <stdbool.h>
 
 static int two_bytes(const uint8_t *b) { return b[0] << 8 | b[1]; }
 
+// Each role reaches itself and the upper role of each pair whose lower role it is; then by way of each role in turn.
+static void reach_upward(book *k, const uint8_t *pairs, int count) {
+    for (int r = 0; r < ROLES; r++) k->upward[r] = 1 << r;
+    for (int i = 0; i < count; i++) k->upward[pairs[2 * i]] |= 1 << pairs[2 * i + 1];
+    for (int by = 0; by < ROLES; by++)
+        for (int r = 0; r < ROLES; r++)
+            if (binds(k->upward, by, r)) k->upward[r] |= k->upward[by];
+}
+
 book sections(const uint8_t *b) {
-    return (book){
+    book k = {
         .steps = b[1],
         .terms = b + two_bytes(b + 2),
         .term_count = two_bytes(b + 4),
@@ -16,6 +24,9 @@ book sections(const uint8_t *b) {
         .links = b + two_bytes(b + 14),
         .link_count = two_bytes(b + 16),
     };
+    if (b[0] == 2) reach_upward(&k, b + two_bytes(b + 18), two_bytes(b + 20));
+    else reach_upward(&k, NULL, 0);
+    return k;
 }
 
 static bool is_place(int kind) { return kind == NAME || kind == SOME || kind == ALL; }

@@ -2,17 +2,22 @@
 #ifndef PLAIN_BOOK_H
 #define PLAIN_BOOK_H
 #include "plain.h"
+#include <stdbool.h>
 
 enum { NAME, NOT, AND, OR, SOME, ALL, TOP, BOTTOM }; // the kinds of terms
-enum { MOST_TERMS = 64, MOST_CLAIMS = 64, MOST_INDIVIDUALS = 8, MOST_QUANTIFIED = 16 };
+enum { MOST_TERMS = 64, MOST_CLAIMS = 64, MOST_INDIVIDUALS = 8, MOST_QUANTIFIED = 16, ROLES = 8 };
 
 typedef struct {
     int steps; // N
     const uint8_t *terms, *rules, *members, *links;
     int term_count, rule_count, member_count, link_count;
+    uint8_t upward[ROLES]; // bit s of the byte of role r: s is r, or is reached from r upward, by the pairs
 } book;
 
 book sections(const uint8_t *bytes);
+
+// Whether the terms of role s bind a link of role r.
+static inline bool binds(const uint8_t upward[ROLES], int s, int r) { return upward[r] >> s & 1; }
 
 // (N + 1) to the number of places, or 0 if that is more than the tables hold.
 int count_candidates(const book *k);

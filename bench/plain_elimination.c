@@ -1,8 +1,10 @@
 // What both ways of elimination share: the quantified terms as slots, what a candidate gives them, and boxes.
 #include "plain_elimination.h"
+#include <string.h>
 
 slots collect_slots(const book *k) {
     slots s = {.steps = k->steps};
+    memcpy(s.upward, k->upward, sizeof s.upward);
     for (int i = 0; i < k->term_count; i++) {
         const uint8_t *t = k->terms + 3 * i;
         if (t[0] == SOME || t[0] == ALL) s.at[s.count++] = (slot){t[0], t[1], i, t[2]};
@@ -35,7 +37,7 @@ void make_box(const slots *s, const uint8_t *own, int q, uint8_t low[MOST_QUANTI
         int g = own[j];
         low[j] = 0;
         high[j] = s->steps;
-        if (s->at[j].role != s->at[q].role) continue;
+        if (!binds(s->upward, s->at[j].role, s->at[q].role)) continue;
         if (s->at[j].kind == ALL && g > s->steps - link) low[j] = g;
         if (s->at[j].kind == SOME && g < link) high[j] = g;
     }

@@ -2,7 +2,6 @@
 #ifndef PLAIN_ELIMINATION_H
 #define PLAIN_ELIMINATION_H
 #include "plain_book.h"
-#include <stdbool.h>
 
 // Marks the survivors among so many candidates; gives their number.
 typedef int eliminator(const book *k, int count, uint8_t *marks);
@@ -18,6 +17,7 @@ typedef struct {
 typedef struct {
     int steps, count;
     slot at[MOST_QUANTIFIED];
+    uint8_t upward[ROLES]; // as in the book
 } slots;
 
 slots collect_slots(const book *k);

@@ -8,11 +8,12 @@ static void fill_rows(placing *p, const book *k, const uint8_t *marks) {
         if (marks[c]) grades(k, c, p->rows[c]);
 }
 
-// Appends the constraints of a link claim, one for each quantified term of its role; gives their number.
+// Appends the constraints of a link claim, one for each quantified term that binds its role; gives their number.
 static int add_constraints(placing *p, const book *k, const uint8_t *link, int n) {
     for (int i = 0; i < k->term_count; i++) {
         const uint8_t *t = k->terms + 3 * i;
-        if ((t[0] == SOME || t[0] == ALL) && t[1] == link[0]) p->constraints[n++] = (constraint){link[1], link[2], t[0], link[3], i, t[2]};
+        bool quantified = t[0] == SOME || t[0] == ALL;
+        if (quantified && binds(k->upward, t[1], link[0])) p->constraints[n++] = (constraint){link[1], link[2], t[0], link[3], i, t[2]};
     }
     return n;
 }

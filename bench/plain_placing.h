@@ -2,11 +2,10 @@
 #ifndef PLAIN_PLACING_H
 #define PLAIN_PLACING_H
 #include "plain_book.h"
-#include <stdbool.h>
 
 enum { MOST_CONSTRAINTS = MOST_CLAIMS * MOST_QUANTIFIED };
 
-// What a link claim asks by one quantified term of its role: of the term itself at the source, and of its child at the target.
+// What a link claim asks by one quantified term of its role or of one above it: of the term itself at the source, and of its child at the target.
 typedef struct {
     uint8_t source, target;
     uint8_t kind, level; // SOME or ALL; what the link is at least
