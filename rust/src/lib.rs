@@ -12,7 +12,7 @@
 //!
 //! No call keeps anything for a later one, so all may be made from several threads at once. None uses the heap, but for
 //! [`Decision::of`]. [`decide`] and [`write_sheet`] need some 1.2 MB of stack: a thread with Rust's default of 2 MB
-//! suffices, one of 1 MB does not. The others need a few KB. Deciding most books takes some 20 to 60 µs, but placing
+//! suffices, one of 1 MB does not. The others need a few KB. Deciding most books takes some 20 to 75 µs, but placing
 //! individuals is exponential at worst, and nothing stops it: decide books of strangers in a process with a limit of time.
 //!
 //! The library is `target/staticlib/libzegbiko.a` of the repository, which `rt staticlib zegbiko` makes, or the one in the
