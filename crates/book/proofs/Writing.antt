@@ -13,7 +13,7 @@ use Rattle.encoding.specs.Words.{Bytes, wordAt, wordBytes}
 use Rattle.encoding.proofs.Words.{word-written}
 use Rattle.encoding.proofs.Stretches.{stretch-length, stretch-next}
 use Rattle.sections.specs.Terms.{termOf, Described}
-use Rattle.claims.specs.Claims.{senseOf, senseAt}
+use Rattle.claims.specs.Claims.{senseOf, membershipRecord}
 use Rattle.sections.proofs.Terms.{by-kind, described-kind, terms-bytes}
 use Rattle.claims.proofs.Rules.{rules-bytes}
 use Rattle.claims.proofs.Claims.{memberships-bytes, links-bytes}
@@ -101,7 +101,7 @@ bytesOf-bookOf b bytes accepts =
     (λ i h. term-written i _ _ _ (ok .terms-right i h .0)) in
     let rules = rules-bytes (ruleBytes b s) ruleBytesOf (countAt b 1) (stretch-length b (s .rules) r (omega arith)) (λ i h. refl) in
     let memberships = memberships-bytes (membershipBytes b s) membershipBytesOf (countAt b 2) (stretch-length b (s .memberships) m (omega arith))
-    (λ i h. cc (sense-written (senseAt (membershipBytes b s) i) (ok .memberships-right i h .1 .1 .0))) in
+    (λ i h. cc (sense-written (membershipRecord (membershipBytes b s) i .sense) (ok .memberships-right i h .1 .1 .0))) in
     let links = links-bytes (linkBytes b s) linkBytesOf (countAt b 3) (stretch-length b (s .links) l (omega arith)) (λ i h. refl) in
     let pairs = pairs-bytes (pairBytes b s) pairBytesOf (countOfPairs b) (stretch-length b (s .pairs) p (omega arith)) (λ i h. refl) in
     let contents = contents-written b bytes ok in

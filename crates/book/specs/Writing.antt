@@ -3,7 +3,7 @@
 -- Assumes nothing.
 use mathlib.Core.List.{List, [], _∷_, _++_, flatMap}
 use Prim.Native.Nat.{ℕ, _+_, _*_}
-use lib.ListN.{length}
+use lib.ListN.{length, getD}
 use Rattle.encoding.specs.Words.{wordBytes}
 use Rattle.semantics.specs.Terms.{Term, name, not, and, or, some, all, top, bottom}
 use Rattle.semantics.specs.Roles.{RolePair}
@@ -34,7 +34,7 @@ senseByte at-most = 1
 
 -- "membership claims (4: individual 0–7, term, sense .., grade)"
 abbrev pub membershipBytesOf : MembershipClaim → List ℕ
-membershipBytesOf q = q .individual ∷ q .term ∷ senseByte (q .sense) ∷ q .grade ∷ []
+membershipBytesOf q = getD (q .members) 0 0 ∷ q .term ∷ senseByte (q .sense) ∷ q .grade ∷ []
 
 -- "link claims (4: role, from, to, grade ..)"
 abbrev pub linkBytesOf : LinkClaim → List ℕ

@@ -27,6 +27,10 @@ zeros-at (suc k) (suc i) = zeros-at k i
 -- ---- members
 
 module _ {A : Type 0} where
+  pub each-map : {P Q : A → Type 0} → ((x : A) → P x → Q x) → (xs : List A) → Each P xs → Each Q xs
+  each-map f [] h = tt
+  each-map f (x ∷ xs) h = (f x (h .0), each-map f xs (h .1))
+
   pub each-map₂ : {P Q R : A → Type 0} → ((x : A) → P x → Q x → R x) → (xs : List A) → Each P xs → Each Q xs → Each R xs
   each-map₂ f [] h g = tt
   each-map₂ f (x ∷ xs) h g = (f x (h .0) (g .0), each-map₂ f xs (h .1) (g .1))

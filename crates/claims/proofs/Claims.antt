@@ -1,16 +1,20 @@
 -- Laws of the claims' sections.
 -- Assumes nothing.
 use mathlib.Core.Path.{_≡_, refl, ap}
+use mathlib.Core.Logic.{inl, ⊎-elim}
 use mathlib.Core.List.{List, [], _∷_, flatMap}
 use Prim.Native.Nat.{ℕ, zero, suc, _*_, _≤_, _<_, max}
 use native.Mathlib.Nat.{add-zero}
 use native.Mathlib.Omega.{arith}
+use lib.Dec.{eqb}
 use lib.ListN.{length}
-use Rattle.chain.specs.Lists.{Each, highest, table}
+use Rattle.chain.specs.Decisions.{Tells}
+use Rattle.chain.specs.Lists.{Mem, Each, highest, table}
+use Rattle.chain.proofs.Decisions.{tells-map, tells-eq}
 use Rattle.chain.proofs.Lists.{each-table, highest-most}
 use Rattle.chain.proofs.Blocks.{blocks-whole}
 use Rattle.semantics.specs.Books.{at-least, at-most, MembershipClaim, LinkClaim, membershipIndividuals, linkIndividuals, linkRoles}
-use Rattle.claims.specs.Claims.{senseOf, claimCount, senseAt, membershipAt, membershipsOf, MembershipsRight, linkAt, linksOf, LinksRight}
+use Rattle.claims.specs.Claims.{senseOf, claimCount, membershipRecord, membershipAt, membershipsOf, MembershipsRight, linkAt, linksOf, LinksRight}
 
 -- ---- a sense, by its byte
 
@@ -22,6 +26,12 @@ sense-most zero n = absurd (n refl)
 sense-most (suc zero) n = refl
 sense-most (suc (suc k)) n = refl
 
+-- ---- the one individual that a claim names, by the number x that equals it
+
+pub one-mentioned : (x a j : ℕ) → x ≡ a → Tells (eqb x j) (Mem j (a ∷ []))
+one-mentioned x a j e =
+    tells-map _ (λ h. inl (omega arith)) (λ m. ⊎-elim (λ h. omega arith) (λ z. absurd z) m) (tells-eq x j)
+
 -- ---- what the records come to
 
 module _ (s : List ℕ) where
@@ -32,7 +42,8 @@ module _ (s : List ℕ) where
   -- n claims, each written as its four bytes, are the section
   pub memberships-bytes : (f : MembershipClaim → List ℕ) (n : ℕ) → length s ≡ 4 * n
       → ((i : ℕ) → i < claimCount s
-      → f (membershipAt s i) ≡ membershipAt s i .individual ∷ membershipAt s i .term ∷ senseAt s i ∷ membershipAt s i .grade ∷ [])
+      → f (membershipAt s i)
+      ≡ membershipRecord s i .named ∷ membershipRecord s i .term ∷ membershipRecord s i .sense ∷ membershipRecord s i .grade ∷ [])
       → (flatMap f (membershipsOf s) ≡ s) × (length (membershipsOf s) ≡ n)
   unfolding membershipsOf table
   memberships-bytes f n e h = blocks-whole f 4 n 0 (membershipAt s) s (omega arith) e (λ i l. let w = h i l in cc (add-zero (4 * i)))
@@ -46,7 +57,7 @@ module _ (s : List ℕ) where
 -- claims within their ranges are about at most 8 individuals
 pub individuals-few : (N n : ℕ) (ms ls : List ℕ) → MembershipsRight ms N n → LinksRight ls N
     → max (highest membershipIndividuals (membershipsOf ms)) (highest linkIndividuals (linksOf ls)) ≤ 8
-unfolding membershipsOf linksOf
+unfolding membershipsOf linksOf highest
 individuals-few N n ms ls m k = omega (
   arith,
   highest-most membershipIndividuals (membershipAt ms) (claimCount ms) 8 (λ i l. omega (arith, m i l .0)),

@@ -9,60 +9,74 @@ use Rattle.chain.specs.Decisions.{dec-and}
 use Rattle.chain.specs.Search.{all?}
 use Rattle.chain.specs.Lists.{table}
 use Rattle.semantics.specs.Books.{Sense, at-least, at-most, MembershipClaim, LinkClaim}
+use Rattle.claims.specs.declared.MembershipRecord.{MembershipRecord}
+use Rattle.claims.specs.declared.LinkRecord.{LinkRecord}
+
+-- ---- a claim's four bytes, the claim that they stand for, and what is asked of them
 
 -- "sense 0 "at least" or 1 "at most""
 abbrev pub senseOf : ℕ → Sense
 senseOf k = getD (at-least ∷ at-most ∷ []) k at-most
 
+abbrev pub membershipOf : MembershipRecord → MembershipClaim
+membershipOf q = record { members = q .named ∷ []; term = q .term; sense = senseOf (q .sense); grade = q .grade }
+
+-- it is about an individual 0–7 and one of n terms, in a sense that there is, with a grade of at most N
+abbrev pub MembershipRight : (N n : ℕ) → MembershipRecord → Type 0
+MembershipRight N n q = (q .named < 8) × ((q .term < n) × ((q .sense < 2) × (q .grade ≤ N)))
+
+unfoldable pub membershipRight? : (N n : ℕ) (q : MembershipRecord) → Dec (MembershipRight N n q)
+unfolding dec-and decLt decLe
+membershipRight? N n q = dec-and (decLt (q .named) 8) (dec-and (decLt (q .term) n) (dec-and (decLt (q .sense) 2) (decLe (q .grade) N)))
+
+abbrev pub linkOf : LinkRecord → LinkClaim
+linkOf q = record { role = q .role; source = q .source; target = q .target; grade = q .grade }
+
+-- it is about a role 0–7 and individuals 0–7, with a grade of at most N
+abbrev pub LinkRight : (N : ℕ) → LinkRecord → Type 0
+LinkRight N q = (q .role < 8) × ((q .source < 8) × ((q .target < 8) × (q .grade ≤ N)))
+
+unfoldable pub linkRight? : (N : ℕ) (q : LinkRecord) → Dec (LinkRight N q)
+unfolding dec-and decLt decLe
+linkRight? N q = dec-and (decLt (q .role) 8) (dec-and (decLt (q .source) 8) (dec-and (decLt (q .target) 8) (decLe (q .grade) N)))
+
+-- ---- the sections
+
 module _ (s : List ℕ) where
   abbrev pub claimCount : ℕ
   claimCount = length s / 4
 
-  abbrev pub senseAt : ℕ → ℕ
-  senseAt i = getD s (4 * i + 2) 0
-
-  -- ---- membership claims
+  abbrev pub membershipRecord : ℕ → MembershipRecord
+  membershipRecord i =
+      record { named = getD s (4 * i) 0; term = getD s (4 * i + 1) 0; sense = getD s (4 * i + 2) 0; grade = getD s (4 * i + 3) 0 }
 
   abbrev pub membershipAt : ℕ → MembershipClaim
-  membershipAt i =
-      record { individual = getD s (4 * i) 0; term = getD s (4 * i + 1) 0; sense = senseOf (senseAt i); grade = getD s (4 * i + 3) 0 }
+  membershipAt i = membershipOf (membershipRecord i)
 
   unfoldable pub membershipsOf : List MembershipClaim
   membershipsOf = table membershipAt claimCount
 
-  -- claim i is about an individual 0–7 and one of n terms, in a sense that there is, with a grade of at most N
-  abbrev pub MembershipRight : (N n i : ℕ) → Type 0
-  MembershipRight N n i =
-      (membershipAt i .individual < 8) × ((membershipAt i .term < n) × ((senseAt i < 2) × (membershipAt i .grade ≤ N)))
-
   -- "Is every membership claim within its ranges, grade at most N?"
   abbrev pub MembershipsRight : (N n : ℕ) → Type 0
-  MembershipsRight N n = (i : ℕ) → i < claimCount → MembershipRight N n i
+  MembershipsRight N n = (i : ℕ) → i < claimCount → MembershipRight N n (membershipRecord i)
 
   unfoldable pub membershipsRight? : (N n : ℕ) → Dec (MembershipsRight N n)
-  unfolding all? dec-and decLt decLe
-  membershipsRight? N n =
-      all? (λ i. dec-and (decLt (membershipAt i .individual) 8)
-      (dec-and (decLt (membershipAt i .term) n) (dec-and (decLt (senseAt i) 2) (decLe (membershipAt i .grade) N)))) claimCount
+  unfolding all? membershipRight?
+  membershipsRight? N n = all? (λ i. membershipRight? N n (membershipRecord i)) claimCount
 
-  -- ---- link claims
+  abbrev pub linkRecord : ℕ → LinkRecord
+  linkRecord i = record { role = getD s (4 * i) 0; source = getD s (4 * i + 1) 0; target = getD s (4 * i + 2) 0; grade = getD s (4 * i + 3) 0 }
 
   abbrev pub linkAt : ℕ → LinkClaim
-  linkAt i = record { role = getD s (4 * i) 0; source = getD s (4 * i + 1) 0; target = getD s (4 * i + 2) 0; grade = getD s (4 * i + 3) 0 }
+  linkAt i = linkOf (linkRecord i)
 
   unfoldable pub linksOf : List LinkClaim
   linksOf = table linkAt claimCount
 
-  -- claim i is about a role 0–7 and individuals 0–7, with a grade of at most N
-  abbrev pub LinkRight : (N i : ℕ) → Type 0
-  LinkRight N i = (linkAt i .role < 8) × ((linkAt i .source < 8) × ((linkAt i .target < 8) × (linkAt i .grade ≤ N)))
-
   -- "Every link claim?"
   abbrev pub LinksRight : (N : ℕ) → Type 0
-  LinksRight N = (i : ℕ) → i < claimCount → LinkRight N i
+  LinksRight N = (i : ℕ) → i < claimCount → LinkRight N (linkRecord i)
 
   unfoldable pub linksRight? : (N : ℕ) → Dec (LinksRight N)
-  unfolding all? dec-and decLt decLe
-  linksRight? N =
-      all? (λ i. dec-and (decLt (linkAt i .role) 8)
-      (dec-and (decLt (linkAt i .source) 8) (dec-and (decLt (linkAt i .target) 8) (decLe (linkAt i .grade) N)))) claimCount
+  unfolding all? linkRight?
+  linksRight? N = all? (λ i. linkRight? N (linkRecord i)) claimCount

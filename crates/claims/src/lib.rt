@@ -1,10 +1,11 @@
 // The rules, pairs and claims of a book, each section checked over its own stretch of bytes.
-ghost use Prim.Native.Nat.{_<_};
+ghost use mathlib.Core.Path.{_≡_};
+ghost use Prim.Native.Nat.{ℕ, _<_, _≤_};
 ghost use Rattle.chain.specs.Decisions.{Tells};
-ghost use Rattle.semantics.specs.Books.{Claimed};
+ghost use Rattle.semantics.specs.Books.{Claimed, Mentions, membershipIndividuals, linkIndividuals};
 ghost use Rattle.claims.specs.Rules.{ruleCount, RuleRight, RulesRight};
 ghost use Rattle.claims.specs.Pairs.{PairsRight};
-ghost use Rattle.claims.specs.Claims.{senseOf, claimCount, MembershipRight, MembershipsRight, LinkRight, LinksRight};
+ghost use Rattle.claims.specs.Claims.{claimCount, membershipOf, membershipRecord, MembershipRight, MembershipsRight, linkOf, linkRecord, LinkRight, LinksRight};
 use encoding::wide;
 
 // ---- rules: two bytes each (check 7)
@@ -52,20 +53,59 @@ const ROLES: u8 = 8;
 
 const SENSES: u8 = 2;
 
-fn membership_right(s: &[u8], i: usize, steps: u8, n: usize) -> bool
+// A membership claim's bytes: whom it names, its term, its sense and the grade claimed.
+pub struct MembershipRecord {
+    pub named: u8,
+    pub term: u8,
+    pub sense: u8,
+    pub grade: u8,
+}
+
+// A link claim's.
+pub struct LinkRecord {
+    pub role: u8,
+    pub source: u8,
+    pub target: u8,
+    pub grade: u8,
+}
+
+pub fn membership_at(s: &[u8], i: usize) -> MembershipRecord
     requires { ⌜ i < claimCount (now s) ⌝ }
-    ensures { λ r. ⌜ Tells r (MembershipRight (now (s .entry)) steps n i) ⌝ }
+    ensures { λ r. ⌜ r ≡ membershipRecord (now (s .entry)) i ⌝ }
 {
-    if INDIVIDUALS <= s[4 * i] {
+    MembershipRecord {
+        named: s[4 * i],
+        term: s[4 * i + 1],
+        sense: s[4 * i + 2],
+        grade: s[4 * i + 3],
+    }
+}
+
+pub fn link_claim_at(s: &[u8], i: usize) -> LinkRecord
+    requires { ⌜ i < claimCount (now s) ⌝ }
+    ensures { λ r. ⌜ r ≡ linkRecord (now (s .entry)) i ⌝ }
+{
+    LinkRecord {
+        role: s[4 * i],
+        source: s[4 * i + 1],
+        target: s[4 * i + 2],
+        grade: s[4 * i + 3],
+    }
+}
+
+fn membership_right(claim: MembershipRecord, steps: u8, n: usize) -> bool
+    ensures { λ r. ⌜ Tells r (MembershipRight steps n claim) ⌝ }
+{
+    if INDIVIDUALS <= claim.named {
         return false;
     }
-    if n <= wide(s[4 * i + 1]) {
+    if n <= wide(claim.term) {
         return false;
     }
-    if SENSES <= s[4 * i + 2] {
+    if SENSES <= claim.sense {
         return false;
     }
-    s[4 * i + 3] <= steps
+    claim.grade <= steps
 }
 
 // Is every membership claim within its ranges, on `steps` steps and `n` terms?
@@ -75,7 +115,7 @@ pub fn memberships_right(s: &[u8], steps: u8, n: usize) -> bool
     let count = s.len() / 4;
     let mut i = 0;
     while i < count {
-        if !membership_right(s, i, steps, n) {
+        if !membership_right(membership_at(s, i), steps, n) {
             return false;
         }
         i += 1;
@@ -83,20 +123,19 @@ pub fn memberships_right(s: &[u8], steps: u8, n: usize) -> bool
     true
 }
 
-fn link_right(s: &[u8], i: usize, steps: u8) -> bool
-    requires { ⌜ i < claimCount (now s) ⌝ }
-    ensures { λ r. ⌜ Tells r (LinkRight (now (s .entry)) steps i) ⌝ }
+fn link_right(claim: LinkRecord, steps: u8) -> bool
+    ensures { λ r. ⌜ Tells r (LinkRight steps claim) ⌝ }
 {
-    if ROLES <= s[4 * i] {
+    if ROLES <= claim.role {
         return false;
     }
-    if INDIVIDUALS <= s[4 * i + 1] {
+    if INDIVIDUALS <= claim.source {
         return false;
     }
-    if INDIVIDUALS <= s[4 * i + 2] {
+    if INDIVIDUALS <= claim.target {
         return false;
     }
-    s[4 * i + 3] <= steps
+    claim.grade <= steps
 }
 
 // Is every link claim within its ranges, on `steps` steps?
@@ -106,7 +145,7 @@ pub fn links_right(s: &[u8], steps: u8) -> bool
     let count = s.len() / 4;
     let mut i = 0;
     while i < count {
-        if !link_right(s, i, steps) {
+        if !link_right(link_claim_at(s, i), steps) {
             return false;
         }
         i += 1;
@@ -114,12 +153,45 @@ pub fn links_right(s: &[u8], steps: u8) -> bool
     true
 }
 
-// Is the grade at least, or at most, the one claimed?
-pub fn claimed(sense: u8, grade: u8, actual: u8) -> bool
-    ensures { λ r. ⌜ Tells r (Claimed (senseOf sense) grade actual) ⌝ }
+// ---- what a claim says
+
+// Does the claim mention individual `j`?
+pub fn mentions(claim: MembershipRecord, j: usize) -> bool
+    ensures { λ r. ⌜ Tells r (Mentions (membershipOf claim) j) ⌝ }
 {
-    if sense == 0 {
-        return grade <= actual;
+    wide(claim.named) == j
+}
+
+// It mentions no individual below this one: where a search for those that it mentions may start.
+pub fn mentioned_from(claim: MembershipRecord) -> usize
+    ensures { λ r. ⌜ ((j : ℕ) → Mentions (membershipOf claim) j → r ≤ j) ⌝ }
+{
+    wide(claim.named)
+}
+
+// One more than the highest individual that it mentions.
+pub fn mentioned(claim: MembershipRecord) -> usize
+    ensures { λ r. ⌜ r ≡ membershipIndividuals (membershipOf claim) ⌝ }
+{
+    wide(claim.named) + 1
+}
+
+// Is the grade at least, or at most, the one claimed?
+pub fn claimed(claim: MembershipRecord, actual: u8) -> bool
+    ensures { λ r. ⌜ Tells r (Claimed (membershipOf claim .sense) (membershipOf claim .grade) actual) ⌝ }
+{
+    if claim.sense == 0 {
+        return claim.grade <= actual;
     }
-    actual <= grade
+    actual <= claim.grade
+}
+
+// One more than the higher of the two individuals of a link claim.
+pub fn linked(claim: LinkRecord) -> usize
+    ensures { λ r. ⌜ r ≡ linkIndividuals (linkOf claim) ⌝ }
+{
+    if claim.source < claim.target {
+        return wide(claim.target) + 1;
+    }
+    wide(claim.source) + 1
 }

@@ -7,13 +7,12 @@ use native.Mathlib.Nat.{add-zero, mul-comm, div-mul-le-self}
 use native.Mathlib.Omega.{arith}
 use lib.ListN.{getD}
 use Rattle.chain.specs.Lists.{highest}
-use Rattle.chain.proofs.Lists.{highest-same, highest-max}
+use Rattle.chain.proofs.Lists.{highest-max}
 use Rattle.chain.proofs.Blocks.{block-fits}
-use Rattle.semantics.specs.Books.{nameAbove, roleAbove, linkRoles, pairRoles, membershipIndividuals, linkIndividuals}
+use Rattle.semantics.specs.Books.{nameAbove, roleAbove, pairRoles}
 use Rattle.sections.specs.Terms.{termOf}
 use Rattle.counts.specs.Columns.{column}
 use Rattle.claims.specs.Pairs.{pairsOf, pairAt, pairCount}
-use Rattle.claims.specs.Claims.{linksOf, membershipsOf, linkAt, membershipAt, claimCount}
 use Rattle.sections.proofs.Terms.{by-kind}
 
 -- ---- the kinds that are left
@@ -36,18 +35,6 @@ pub record-in : (w n i k : ℕ) → i < n / w → k < w → w * i + k < n
 record-in w n i k h l = omega (arith, block-fits w i (n / w) h, mul-comm w i, div-mul-le-self n w)
 
 module _ (s : List ℕ) where
-  pub column-roles : highest suc (column s 4 0) ≡ highest linkRoles (linksOf s)
-  unfolding column linksOf
-  column-roles = highest-same suc linkRoles _ (linkAt s) (claimCount s) (λ i. ap (λ (j : ℕ). suc (getD s j 0)) (add-zero (4 * i)))
-
-  pub column-members : highest suc (column s 4 0) ≡ highest membershipIndividuals (membershipsOf s)
-  unfolding column membershipsOf
-  column-members = highest-same suc membershipIndividuals _ (membershipAt s) (claimCount s) (λ i. ap (λ (j : ℕ). suc (getD s j 0)) (add-zero (4 * i)))
-
-  pub columns-linked : max (highest suc (column s 4 1)) (highest suc (column s 4 2)) ≡ highest linkIndividuals (linksOf s)
-  unfolding column linksOf
-  columns-linked = sym (highest-max linkIndividuals suc suc (linkAt s) _ _ (claimCount s) (λ i. refl))
-
   pub columns-paired : max (highest suc (column s 2 0)) (highest suc (column s 2 1)) ≡ highest pairRoles (pairsOf s)
   unfolding column pairsOf
   columns-paired =

@@ -7,6 +7,10 @@ ghost use Rattle.sections.specs.Terms.{termAt, termsOf, termCount};
 ghost use Rattle.claims.specs.Pairs.{pairsOf};
 ghost use Rattle.claims.specs.Claims.{membershipsOf, linksOf};
 ghost use Rattle.counts.specs.Columns.{column};
+use claims::link_claim_at;
+use claims::linked;
+use claims::membership_at;
+use claims::mentioned;
 use encoding::wide;
 
 // Of two counts; `grades::greater` is the same of two grades, which are bytes.
@@ -82,19 +86,61 @@ fn count_column(s: &[u8], w: usize, k: usize) -> usize
     found
 }
 
+// One more than the highest role of the link claims, or 0.
+fn count_link_roles(s: &[u8]) -> usize
+    ensures { λ r. ⌜ r ≡ highest linkRoles (linksOf (now (s .entry))) ⌝ }
+{
+    let count = s.len() / 4;
+    let mut found = 0;
+    let mut i = 0;
+    while i < count {
+        let claim = link_claim_at(s, i);
+        found = higher(found, wide(claim.role) + 1);
+        i += 1;
+    }
+    found
+}
+
 // R, the number of roles that terms, link claims and pairs count.
 pub fn count_roles(terms: &[u8], links: &[u8], pairs: &[u8]) -> usize
     ensures { λ r. ⌜ r ≡ max (max (highest roleAbove (termsOf (now (terms .entry)))) (highest linkRoles (linksOf (now (links .entry))))) (highest pairRoles (pairsOf (now (pairs .entry)))) ⌝ }
 {
-    let named = higher(count_term_roles(terms), count_column(links, 4, 0));
+    let named = higher(count_term_roles(terms), count_link_roles(links));
     let ranked = higher(count_column(pairs, 2, 0), count_column(pairs, 2, 1));
     higher(named, ranked)
+}
+
+// One more than the highest individual of the membership claims, or 0.
+fn count_mentioned(s: &[u8]) -> usize
+    ensures { λ r. ⌜ r ≡ highest membershipIndividuals (membershipsOf (now (s .entry))) ⌝ }
+{
+    let count = s.len() / 4;
+    let mut found = 0;
+    let mut i = 0;
+    while i < count {
+        found = higher(found, mentioned(membership_at(s, i)));
+        i += 1;
+    }
+    found
+}
+
+// And of the link claims.
+fn count_linked(s: &[u8]) -> usize
+    ensures { λ r. ⌜ r ≡ highest linkIndividuals (linksOf (now (s .entry))) ⌝ }
+{
+    let count = s.len() / 4;
+    let mut found = 0;
+    let mut i = 0;
+    while i < count {
+        found = higher(found, linked(link_claim_at(s, i)));
+        i += 1;
+    }
+    found
 }
 
 // I, the number of individuals that claims count.
 pub fn count_individuals(memberships: &[u8], links: &[u8]) -> usize
     ensures { λ r. ⌜ r ≡ max (highest membershipIndividuals (membershipsOf (now (memberships .entry)))) (highest linkIndividuals (linksOf (now (links .entry)))) ⌝ }
 {
-    let linked = higher(count_column(links, 4, 1), count_column(links, 4, 2));
-    higher(count_column(memberships, 4, 0), linked)
+    higher(count_mentioned(memberships), count_linked(links))
 }

@@ -15,9 +15,10 @@ use Rattle.chain.proofs.Decisions.{tells-map}
 use Rattle.chain.proofs.Search.{below-cases}
 use Rattle.chain.proofs.Blocks.{block-kept, each-block-more}
 use Rattle.semantics.specs.Terms.{Ordered}
-use Rattle.semantics.specs.Books.{Claimed}
+use Rattle.semantics.specs.Books.{Claimed, Mentions}
 use Rattle.sections.specs.Terms.{termCount, termsOf}
-use Rattle.claims.specs.Claims.{membershipAt}
+use Rattle.claims.specs.Claims.{membershipOf, membershipRecord, membershipAt}
+use Rattle.claims.specs.declared.MembershipRecord.{MembershipRecord}
 use Rattle.sections.proofs.Terms.{length-terms, terms-ordered}
 use Rattle.gradings.specs.Gradings.{grading}
 use Rattle.gradings.specs.declared.Logic.{Logic}
@@ -31,13 +32,17 @@ use Rattle.filter.specs.Filter.{Task, ClaimsBelow, MembershipBy, Members
 
 -- ---- membership claims
 
--- a claim about individual j, by the numbers that code reads for its individual and its term
-pub membership-told : (r : Bool) (ms : List ℕ) (j : ℕ) (f : ℕ → ℕ) (i who term : ℕ) → who ≡ membershipAt ms i .individual → who ≡ j
-    → term ≡ membershipAt ms i .term → Tells r (Claimed (membershipAt ms i .sense) (membershipAt ms i .grade) (f term)) → Tells r (MembershipBy ms j f i)
-membership-told r ms j f i who term a b e t = tells-map r (λ h _. subst Met e h) (λ g. subst Met (sym e) (g (sym a ∙ b))) t
+-- a claim that mentions individual j, by what code reads: its four bytes, and the number of its term
+pub membership-told : (r : Bool) (ms : List ℕ) (j : ℕ) (f : ℕ → ℕ) (i : ℕ) (q : MembershipRecord) (term : ℕ) → q ≡ membershipRecord ms i
+    → Mentions (membershipOf q) j → term ≡ q .term → Tells r (Claimed (membershipOf q .sense) (membershipOf q .grade) (f term)) → Tells r (MembershipBy ms j f i)
+membership-told r ms j f i q term e m t h =
+    subst (λ (p : MembershipRecord). Tells r (Asks p)) e (tells-map r (λ c _. subst Met t c) (λ g. subst Met (sym t) (g m)) h)
   where
     Met : ℕ → Type 0
-    Met x = Claimed (membershipAt ms i .sense) (membershipAt ms i .grade) (f x)
+    Met x = Claimed (membershipOf q .sense) (membershipOf q .grade) (f x)
+
+    Asks : MembershipRecord → Type 0
+    Asks p = Mentions (membershipOf p) j → Claimed (membershipOf p .sense) (membershipOf p .grade) (f (p .term))
 
 -- where they are about terms below n, they ask the same of grades that are the same there
 memberships-same : (ms : List ℕ) (n : ℕ) → ClaimsBelow ms n → (f g : ℕ → ℕ) → ((i : ℕ) → i < n → f i ≡ g i) → (j : ℕ) → MembershipsBy ms j f

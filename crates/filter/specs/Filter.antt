@@ -6,7 +6,7 @@ use mathlib.Core.Logic.{_↔_}
 use mathlib.Core.List.{List}
 use Prim.Native.Nat.{ℕ, _+_, _*_, _≤_, _<_}
 use lib.ListN.{getD, take}
-use Rattle.semantics.specs.Books.{Claimed}
+use Rattle.semantics.specs.Books.{Claimed, Mentions}
 use Rattle.types.specs.Candidates.{gradeIn}
 use Rattle.sections.specs.Terms.{termCount, termsOf, TermsRight}
 use Rattle.claims.specs.Claims.{claimCount, membershipAt, MembershipsRight}
@@ -33,12 +33,12 @@ pub record Task (l : Logic) (ts slots ms : List ℕ) : Type 0 where
 abbrev pub ClaimsBelow : (ms : List ℕ) (n : ℕ) → Type 0
 ClaimsBelow ms n = (i : ℕ) → i < claimCount ms → membershipAt ms i .term < n
 
--- the grades that f gives of the terms meet membership claim i, if this is about individual j
+-- the grades that f gives of the terms meet membership claim i, if this mentions individual j
 abbrev pub MembershipBy : (ms : List ℕ) (j : ℕ) (f : ℕ → ℕ) (i : ℕ) → Type 0
 MembershipBy ms j f i =
-    membershipAt ms i .individual ≡ j → Claimed (membershipAt ms i .sense) (membershipAt ms i .grade) (f (membershipAt ms i .term))
+    Mentions (membershipAt ms i) j → Claimed (membershipAt ms i .sense) (membershipAt ms i .grade) (f (membershipAt ms i .term))
 
--- they meet every membership claim about j
+-- they meet every membership claim that mentions j
 abbrev pub MembershipsBy : (ms : List ℕ) (j : ℕ) (f : ℕ → ℕ) → Type 0
 MembershipsBy ms j f = (i : ℕ) → i < claimCount ms → MembershipBy ms j f i
 

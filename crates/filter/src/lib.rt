@@ -11,6 +11,8 @@ ghost use Rattle.network.specs.Network.{Wired};
 ghost use Rattle.domains.specs.Consistent.{Problem};
 ghost use Rattle.filter.specs.Filter.{Task, ClaimsBelow, MembershipBy, MembershipsBy, Admits, Column, Entered, Filtered};
 use claims::claimed;
+use claims::membership_at;
+use claims::mentions;
 use encoding::wide;
 use grades::fill_row;
 use gradings::Logic;
@@ -21,22 +23,19 @@ use network::row_at;
 
 // ---- by the grades of a candidate, and its row of slots
 
-// Do the grades of the row meet membership claim `i`, if this is about individual `j`?
+// Do the grades of the row meet membership claim `i`, if this mentions individual `j`?
 fn membership_met(memberships: &[u8], i: usize, j: usize, row: &[u8]) -> bool
     requires { ⌜ (i < claimCount (now memberships)) × (membershipAt (now memberships) i .term < length (now row)) ⌝ }
     ensures { λ r. ⌜ Tells r (MembershipBy (now (memberships .entry)) j (entry (now (row .entry))) i) ⌝ }
 {
-    if wide(memberships[4 * i]) != j {
+    let claim = membership_at(memberships, i);
+    if !mentions(claim, j) {
         return true;
     }
-    claimed(
-        memberships[4 * i + 2],
-        memberships[4 * i + 3],
-        row[wide(memberships[4 * i + 1])],
-    )
+    claimed(claim, row[wide(claim.term)])
 }
 
-// Do they meet every one about individual `j`?
+// Do they meet every one that mentions individual `j`?
 fn memberships_met(memberships: &[u8], j: usize, row: &[u8]) -> bool
     requires { ⌜ ClaimsBelow (now memberships) (length (now row)) ⌝ }
     ensures { λ r. ⌜ Tells r (MembershipsBy (now (memberships .entry)) j (entry (now (row .entry)))) ⌝ }

@@ -12,6 +12,7 @@ ghost use Rattle.network.specs.Rows.{rowAt};
 ghost use Rattle.network.specs.Levels.{ClaimsRanged, LevelsOf, NotedFor};
 ghost use Rattle.network.specs.Constraints.{constraintCount, constraintAt, Met, AllMet, AllRight};
 ghost use Rattle.network.specs.Network.{between as betweenOf, Laid, NetworkOf, SlotAdded, Added, Connected};
+use claims::link_claim_at;
 use encoding::wide;
 use gradings::Logic;
 use gradings::governs;
@@ -71,14 +72,15 @@ fn note_claim(logic: Logic, links: &[u8], i: usize, levels: &mut [u8])
     requires { ⌜ LevelsOf logic (now links) i (now levels) ⌝ }
     ensures { λ _. ⌜ LevelsOf logic (now (links .entry)) (i + 1) (now (levels .exit)) ⌝ }
 {
-    let pair = 8 * wide(links[4 * i + 1]) + wide(links[4 * i + 2]);
+    let claim = link_claim_at(links, i);
+    let pair = 8 * wide(claim.source) + wide(claim.target);
     let mut t = 0;
     while t < 8 {
         note_for(
             logic,
             t,
-            links[4 * i],
-            links[4 * i + 3],
+            claim.role,
+            claim.grade,
             levels,
             64 * wide(t) + pair,
         );

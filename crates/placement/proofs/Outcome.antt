@@ -10,9 +10,10 @@ use native.Mathlib.Nat.{le-trans}
 use native.Mathlib.Omega.{arith}
 use lib.ListN.{length, getD}
 use Rattle.chain.specs.Lists.{Mem, Each, Ascending, table, index}
-use Rattle.chain.proofs.Lists.{mem-at, at-mem, each-mem, each-map₂, each-map₃, length-table, getD-table, each-table, each-highest, index-lt, at-index}
+use Rattle.chain.proofs.Lists.{mem-at, at-mem, each-mem, mem-each, each-map₂, each-map₃, length-table, getD-table, each-table, each-highest, index-lt, at-index}
 use Rattle.semantics.specs.Interpretations.{Grading, Interpretation, gradeAt}
-use Rattle.semantics.specs.Books.{Book, MembershipClaim, TermInRange, membershipIndividuals, linkIndividuals, individuals, Valid, MeetsMembership, MeetsLink, RuleModel, MeetsClaims, RulesSatisfiable, Satisfiable}
+use Rattle.semantics.specs.Books.{Book, MembershipClaim, TermInRange, Mentions, membershipIndividuals, linkIndividuals, individuals, Valid, MemberMeets, MeetsMembership, MeetsLink, RuleModel, MeetsClaims, RulesSatisfiable, Satisfiable}
+use Rattle.semantics.proofs.Claims.{members-map}
 use Rattle.types.specs.Candidates.{gradeIn, typeOf}
 use Rattle.types.proofs.Candidates.{typeOf-has}
 use Rattle.elimination.specs.Survivors.{Sound, Survives}
@@ -21,7 +22,7 @@ use Rattle.elimination.proofs.Survivors.{survivors-ascending, survivors-sound}
 use Rattle.elimination.proofs.Complete.{complete, link-of-types}
 use Rattle.elimination.proofs.Listed.{sound-has, sound-meets}
 use Rattle.placement.specs.Dictionary.{Drawn, Foremost, Nowhere, Finds}
-use Rattle.placement.specs.Outcome.{seat, survivorsOf, HoldsMembership, HoldsLink, HoldsAt, Unmentioned, holds?, placementAmong, placement, outcomeOf, outcome, placedAmong, placedTypes, seatedAs}
+use Rattle.placement.specs.Outcome.{seat, MembershipMet, survivorsOf, HoldsMembership, HoldsLink, HoldsAt, Unmentioned, holds?, placementAmong, placement, outcomeOf, outcome, placedAmong, placedTypes, seatedAs}
 use Rattle.placement.proofs.Dictionary.{seek-finds}
 
 module _ (B : Book) where
@@ -90,8 +91,9 @@ module _ (B : Book) where
           (
             (length-table t n, each-table (Survives G (B .rules)) t n (λ j _. complete B w I (m .1) (I .element j) (c .element-lt j))),
             (
-              each-map₃ {R = MeetsMembership G I} {S = HoldsMembership B (seat (table t n))} (λ q l u h.
-                  rw (getD-table t n (q .individual) 0 u, ← typeOf-has G (w .well-formed) I c (I .element (q .individual)) (c .element-lt (q .individual)) (q .term) l) h)
+              each-map₃ {R = MeetsMembership G I} {S = HoldsMembership B (seat (table t n))} (λ q l u.
+                  members-map q n u {P = MemberMeets G I q} {Q = λ j. MembershipMet G (seat (table t n) j) q} (λ j below h.
+                  rw (getD-table t n j 0 below, ← typeOf-has G (w .well-formed) I c (I .element j) (c .element-lt j) (q .term) l) h))
                   (B .memberships) (w .terms-in) members-in (m .2 .memberships-met),
               each-map₂ {Q = MeetsLink I} {R = HoldsLink B (seat (table t n))} (λ q u h.
                   rw (getD-table t n (q .source) 0 (omega arith), getD-table t n (q .target) 0 (omega arith))
@@ -113,17 +115,17 @@ module _ (B : Book) where
       pub placed-seat : (j : ℕ) → j < individuals B → getD xs (at j) 0 ≡ seat p j
       placed-seat j u = at-index xs (seat p j) (each-mem (λ c. Mem c xs) p (v .1) (seat p j) (mem-at p j 0 (omega (arith, v .0))))
 
-      -- what a term is graded there
-      grade-there : (q : MembershipClaim) → TermInRange G q → membershipIndividuals q ≤ individuals B
-          → gradeAt G (placedAmong B xs p) (q .term) (at (q .individual)) ≡ gradeIn G (seat p (q .individual)) (q .term)
-      grade-there q t u =
-          sound-has G (B .rules) (w .well-formed) xs sound at (at (q .individual)) (seated (q .individual)) (q .term) t
-          ∙ ap (λ (c : ℕ). gradeIn G c (q .term)) (placed-seat (q .individual) u)
+      -- what a claim's term is graded there
+      grade-there : (q : MembershipClaim) → TermInRange G q → (j : ℕ) → j < individuals B
+          → gradeAt G (placedAmong B xs p) (q .term) (at j) ≡ gradeIn G (seat p j) (q .term)
+      grade-there q t j u =
+          sound-has G (B .rules) (w .well-formed) xs sound at (at j) (seated j) (q .term) t ∙ ap (λ (c : ℕ). gradeIn G c (q .term)) (placed-seat j u)
 
       -- the claims hold of the placement if and only if the types' interpretation meets them
       pub placed-claims : HoldsAt B p → MeetsClaims B (placedAmong B xs p)
       placed-claims v = record {
-        memberships-met = each-map₃ {R = HoldsMembership B (seat p)} {S = MeetsMembership G (placedAmong B xs p)} (λ q t u g. rw (grade-there q t u) g)
+        memberships-met = each-map₃ {R = HoldsMembership B (seat p)} {S = MeetsMembership G (placedAmong B xs p)} (λ q t u.
+            members-map q (individuals B) u {P = λ j. MembershipMet G (seat p j) q} {Q = MemberMeets G (placedAmong B xs p) q} (λ j l g. rw (grade-there q t j l) g))
             (B .memberships) (w .terms-in) members-in (v .0);
         links-met = each-map₂ {Q = HoldsLink B (seat p)} {R = MeetsLink (placedAmong B xs p)} (λ q u g.
             rw (placed-seat (q .source) (omega arith), placed-seat (q .target) (omega arith)) g) (B .links) links-in (v .1);
@@ -131,7 +133,8 @@ module _ (B : Book) where
 
       pub claims-placed : MeetsClaims B (placedAmong B xs p) → HoldsAt B p
       claims-placed m = (
-        each-map₃ {R = MeetsMembership G (placedAmong B xs p)} {S = HoldsMembership B (seat p)} (λ q t u g. rw (← grade-there q t u) g)
+        each-map₃ {R = MeetsMembership G (placedAmong B xs p)} {S = HoldsMembership B (seat p)} (λ q t u.
+            members-map q (individuals B) u {P = MemberMeets G (placedAmong B xs p) q} {Q = λ j. MembershipMet G (seat p j) q} (λ j l g. rw (← grade-there q t j l) g))
             (B .memberships) (w .terms-in) members-in (m .memberships-met),
         each-map₂ {Q = MeetsLink (placedAmong B xs p)} {R = HoldsLink B (seat p)} (λ q u g.
             rw (← placed-seat (q .source) (omega arith), ← placed-seat (q .target) (omega arith)) g) (B .links) links-in (m .links-met),
@@ -214,7 +217,8 @@ pub unmentioned-met : (B : Book) (j : ℕ) → Unmentioned B j → (I : Interpre
 unfolding gradeAt
 unmentioned-met B j u I at same m = record {
   memberships-met = each-map₂ {Q = MeetsMembership (B .grading) I} {R = MeetsMembership (B .grading) (seatedAs I at)} (λ q n h.
-      rw (same (q .individual) n) h) (B .memberships) (u .0) (m .memberships-met);
+      mem-each (q .members) (λ k o. rw (same k (λ e. n (subst (Mentions q) e o))) (each-mem (MemberMeets (B .grading) I q) (q .members) h k o)))
+      (B .memberships) (u .0) (m .memberships-met);
   links-met = each-map₂ {Q = MeetsLink I} {R = MeetsLink (seatedAs I at)} (λ q n h. rw (same (q .source) (n .0), same (q .target) (n .1)) h)
       (B .links) (u .1) (m .links-met);
 }

@@ -10,7 +10,7 @@ use lib.ListN.{getD}
 use Rattle.chain.specs.Decisions.{dec-and}
 use Rattle.chain.specs.Lists.{Each, each?, index}
 use Rattle.semantics.specs.Interpretations.{Grading, Interpretation}
-use Rattle.semantics.specs.Books.{Book, MembershipClaim, LinkClaim, Claimed, claimed?, individuals}
+use Rattle.semantics.specs.Books.{Book, MembershipClaim, LinkClaim, Claimed, claimed?, Mentions, individuals}
 use Rattle.types.specs.Candidates.{gradeIn}
 use Rattle.types.specs.Links.{link}
 use Rattle.elimination.specs.Survivors.{survivors}
@@ -21,7 +21,7 @@ use Rattle.placement.specs.Dictionary.{seek}
 abbrev pub seat : List ℕ → ℕ → ℕ
 seat p j = getD p j 0
 
--- a membership claim is met with its individual at candidate c; a link claim with individual j at candidate s j
+-- a membership claim is met by a member at candidate c; a link claim with individual j at candidate s j
 abbrev pub MembershipMet : Grading → ℕ → MembershipClaim → Type 0
 MembershipMet G c q = Claimed (q .sense) (q .grade) (gradeIn G c (q .term))
 
@@ -35,7 +35,7 @@ module _ (B : Book) where
 
   -- with individual j at candidate s j, a claim is met
   abbrev pub HoldsMembership : (ℕ → ℕ) → MembershipClaim → Type 0
-  HoldsMembership s q = MembershipMet (B .grading) (s (q .individual)) q
+  HoldsMembership s q = Each (λ j. MembershipMet (B .grading) (s j) q) (q .members)
 
   abbrev pub HoldsLink : (ℕ → ℕ) → LinkClaim → Type 0
   HoldsLink = LinkMet (B .grading)
@@ -49,12 +49,12 @@ module _ (B : Book) where
 
   -- no claim mentions individual j
   abbrev pub Unmentioned : ℕ → Type 0
-  Unmentioned j = Each (λ q. ¬ (q .individual ≡ j)) (B .memberships) × Each (λ q. (¬ (q .source ≡ j)) × (¬ (q .target ≡ j))) (B .links)
+  Unmentioned j = Each (λ q. ¬ Mentions q j) (B .memberships) × Each (λ q. (¬ (q .source ≡ j)) × (¬ (q .target ≡ j))) (B .links)
 
   unfoldable pub holds? : (s : ℕ → ℕ) → Dec (Holds s)
   unfolding dec-and each? claimed? decLe
   holds? s =
-      dec-and (each? (λ q. claimed? (q .sense) (q .grade) (gradeIn (B .grading) (s (q .individual)) (q .term))) (B .memberships))
+      dec-and (each? (λ q. each? (λ j. claimed? (q .sense) (q .grade) (gradeIn (B .grading) (s j) (q .term))) (q .members)) (B .memberships))
       (each? (λ q. decLe (q .grade) (link (B .grading) (q .role) (s (q .source)) (s (q .target)))) (B .links))
 
   -- "the first in dictionary order, individual 0 leading", of the placements at the candidates in xs, ascending, that meet the claims; none where

@@ -8,11 +8,12 @@ use Prim.Native.Nat.{ℕ, _+_, _*_, _≤_, _<_}
 use native.Mathlib.Omega.{arith}
 use lib.ListN.{length}
 use Rattle.chain.specs.Lists.{Each}
-use Rattle.chain.proofs.Lists.{each-table, table-each, highest-at}
+use Rattle.chain.proofs.Lists.{each-mem, mem-each, each-table, table-each, highest-at}
 use Rattle.semantics.specs.Terms.{Ordered}
 use Rattle.semantics.specs.Interpretations.{Grading, WellFormed}
-use Rattle.semantics.specs.Books.{Book, membershipIndividuals, linkIndividuals, individuals}
+use Rattle.semantics.specs.Books.{Book, Mentions, membershipIndividuals, linkIndividuals, individuals}
 use Rattle.semantics.specs.Links.{Allows}
+use Rattle.semantics.proofs.Claims.{mentioned-below}
 use Rattle.types.proofs.Candidates.{gradeIn-le}
 use Rattle.types.proofs.Links.{link-allows}
 use Rattle.sections.specs.Terms.{termCount, termsOf}
@@ -25,7 +26,7 @@ use Rattle.gradings.proofs.Gradings.{grading-well-formed}
 use Rattle.slots.specs.Slots.{slotCount, slotRole}
 use Rattle.slots.specs.Rows.{SlotRow}
 use Rattle.slots.proofs.Slots.{slot-role}
-use Rattle.placement.specs.Outcome.{HoldsMembership, HoldsLink}
+use Rattle.placement.specs.Outcome.{MembershipMet, HoldsMembership, HoldsLink}
 use Rattle.network.specs.Rows.{rowAt}
 use Rattle.boxes.specs.Boxes.{OnChain}
 use Rattle.network.specs.Constraints.{AllMet}
@@ -66,9 +67,10 @@ module _ {lg : Logic} {ts slots ms ls marks : List ℕ} {count n : ℕ} {net end
   unfolding individuals
   few = rw (w .task .individuals-are) (individuals-few (lg .steps) (termCount ts) ms ls (w .task .memberships-right) (w .task .links-right))
 
-  member-below : (i : ℕ) → i < claimCount ms → membershipAt ms i .individual < n
+  member-below : (i : ℕ) → i < claimCount ms → (j : ℕ) → Mentions (membershipAt ms i) j → j < n
   unfolding individuals membershipsOf
-  member-below i l = omega (arith, w .task .individuals-are, highest-at membershipIndividuals (membershipAt ms) (claimCount ms) i l)
+  member-below i l =
+      mentioned-below (membershipAt ms i) n (omega (arith, w .task .individuals-are, highest-at membershipIndividuals (membershipAt ms) (claimCount ms) i l))
 
   link-below : (i : ℕ) → i < claimCount ls → (linkAt ls i .source < n) × (linkAt ls i .target < n)
   unfolding individuals linksOf
@@ -95,12 +97,14 @@ module _ {lg : Logic} {ts slots ms ls marks : List ℕ} {count n : ℕ} {net end
     abbrev grades : (j i : ℕ) → ℕ
     grades j = gradesOf lg ts (s j)
 
-    -- every membership claim is met exactly if the individuals' grades meet those about them
+    -- every membership claim is met exactly if the individuals' grades meet those that mention them
     pub members-hold : ((j : ℕ) → j < n → MembershipsBy ms j (grades j)) ↔ Each (HoldsMembership B s) (B .memberships)
     unfolding membershipsOf
     members-hold = (
-      λ f. each-table (HoldsMembership B s) (membershipAt ms) (claimCount ms) (λ i l. f (membershipAt ms i .individual) (member-below i l) i l refl),
-      λ h j _ i l e. rw (← e) (table-each (HoldsMembership B s) (membershipAt ms) (claimCount ms) h i l),
+      λ f. each-table (HoldsMembership B s) (membershipAt ms) (claimCount ms) (λ i l.
+          mem-each (membershipAt ms i .members) (λ j m. f j (member-below i l j m) i l m)),
+      λ h j _ i l m. each-mem (λ k. MembershipMet G (s k) (membershipAt ms i)) (membershipAt ms i .members)
+          (table-each (HoldsMembership B s) (membershipAt ms) (claimCount ms) h i l) j m,
     )
 
     linked : (i : ℕ) → i < claimCount ls → let q = linkAt ls i in

@@ -6,3 +6,4 @@ pub mod Table
 pub mod Governs
 pub mod Links
 pub mod Bounds
+pub mod Claims

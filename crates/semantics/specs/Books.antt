@@ -6,7 +6,7 @@ use mathlib.Core.List.{List}
 use Prim.Native.Nat.{ℕ, suc, _≤_, _<_, max}
 use native.Mathlib.Decide.{decLe}
 use lib.ListN.{length}
-use Rattle.chain.specs.Lists.{Each, highest}
+use Rattle.chain.specs.Lists.{Mem, Each, highest}
 use Rattle.semantics.specs.Terms.{Term, name, not, and, or, some, all, top, bottom}
 use Rattle.semantics.specs.Roles.{RolePair, hierarchy}
 use Rattle.semantics.specs.Interpretations.{Grading, WellFormed, Interpretation, OnChain, gradeAt}
@@ -29,8 +29,9 @@ unfolding decLe
 claimed? at-least g x = decLe g x
 claimed? at-most g x = decLe x g
 
+-- about the individuals that it names, its members
 pub record MembershipClaim : Type 0 where
-  pub individual : ℕ
+  pub members : List ℕ
   pub term : ℕ
   pub sense : Sense
   pub grade : ℕ
@@ -51,9 +52,13 @@ pub record Book : Type 0 where
 
 -- ---- the individuals: "0 up to the highest one claimed; without claims there are none"
 
+-- a claim mentions an individual
+abbrev pub Mentions : MembershipClaim → ℕ → Type 0
+Mentions q j = Mem j (q .members)
+
 -- one more than the highest individual of a claim
 abbrev pub membershipIndividuals : MembershipClaim → ℕ
-membershipIndividuals q = suc (q .individual)
+membershipIndividuals q = highest suc (q .members)
 
 abbrev pub linkIndividuals : LinkClaim → ℕ
 linkIndividuals q = max (suc (q .source)) (suc (q .target))
@@ -124,8 +129,11 @@ module _ (G : Grading) (I : Interpretation) where
   MeetsRule q = (e : ℕ) → e < I .size → gradeAt G I (q .left) e ≤ gradeAt G I (q .right) e
 
   -- "A membership claim is met when its term's grade at its individual's element is at least, or at most, the grade claimed"
+  abbrev pub MemberMeets : MembershipClaim → (individual : ℕ) → Type 0
+  MemberMeets q j = Claimed (q .sense) (q .grade) (gradeAt G I (q .term) (I .element j))
+
   abbrev pub MeetsMembership : MembershipClaim → Type 0
-  MeetsMembership q = Claimed (q .sense) (q .grade) (gradeAt G I (q .term) (I .element (q .individual)))
+  MeetsMembership q = Each (MemberMeets q) (q .members)
 
 -- "a link claim when the role's link from the one's element to the other's is at least the grade claimed"
 abbrev pub MeetsLink : Interpretation → LinkClaim → Type 0

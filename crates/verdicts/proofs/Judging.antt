@@ -1,30 +1,26 @@
 -- Laws for the functions: one rule, pair or claim judged by numbers that are read from the cells; the first that is broken of a section's records.
 -- Assumes nothing.
-use mathlib.Core.Path.{_≡_, sym, ap, ap₂, subst, _∙_}
+use mathlib.Core.Path.{_≡_, sym, ap₂, _∙_}
 use mathlib.Core.List.{List}
 use Prim.Native.Nat.{ℕ, _≤_, _<_}
-use native.Mathlib.Decide.{decLe}
 use native.Mathlib.Omega.{arith}
+use lib.Dec.{leb}
+use Rattle.chain.specs.Decisions.{Tells}
+use Rattle.chain.proofs.Decisions.{tells-map, tells-le}
+use Rattle.chain.proofs.Lists.{each-mem, mem-each}
 use Rattle.semantics.specs.Roles.{RolePair}
 use Rattle.semantics.specs.Interpretations.{Interpretation}
-use Rattle.semantics.specs.Books.{Rule, Claimed, claimed?, MembershipClaim, LinkClaim}
+use Rattle.semantics.specs.Books.{Rule, MembershipClaim, LinkClaim, membershipIndividuals, MeetsLink}
+use Rattle.semantics.proofs.Claims.{mentioned-below}
 use Rattle.claims.specs.Rules.{ruleCount, ruleAt, rulesOf}
 use Rattle.claims.specs.Pairs.{pairCount, pairAt, pairsOf}
 use Rattle.claims.specs.Claims.{claimCount, membershipAt, membershipsOf, linkAt, linksOf}
-use Rattle.working.specs.Working.{judge, firstBroken, ruleVerdictAt, ruleVerdict, pairVerdictAt, pairVerdict, membershipVerdict, linkVerdict, rulesVerdict, pairsVerdict, membershipsVerdict, linksVerdict}
-use Rattle.working.specs.declared.Verdict.{Verdict}
-use Rattle.working.specs.declared.Verdict.the-variants.{Meets, BreaksRule, BreaksPair, BreaksMembership, BreaksLink}
+use Rattle.working.specs.Working.{firstBroken, ruleVerdictAt, ruleVerdict, pairVerdictAt, pairVerdict, membershipVerdict, linkVerdict, rulesVerdict, pairsVerdict, membershipsVerdict, linksVerdict}
+use Rattle.working.specs.declared.Verdict.the-variants.{Meets, BreaksRule, BreaksPair}
 use Rattle.working.proofs.Working.{judge-yes, judge-no, first-table}
+use Rattle.verdicts.specs.Cells.{MeetsMember, MeetsIfMentioned, MembersMeet}
 
 -- ---- one rule, pair or claim
-
--- a fact about y, found by the number x that equals it
-module _ {P : ℕ → Type 0} (p : (x : ℕ) → Dec (P x)) (v : Verdict) {x y : ℕ} (e : x ≡ y) where
-  judged-met : P x → Meets ≡ judge (p y) v
-  judged-met h = sym (judge-yes (p y) v (subst P e h))
-
-  judged-unmet : ¬ P x → v ≡ judge (p y) v
-  judged-unmet n = sym (judge-no (p y) v (λ h. n (subst P (sym e) h)))
 
 module _ (grade : (term element : ℕ) → ℕ) (k : ℕ) where
   -- x and y are the grades of the two terms at e
@@ -37,15 +33,13 @@ module _ (grade : (term element : ℕ) → ℕ) (k : ℕ) where
     unfolding ruleVerdictAt
     rule-unmet h = sym (judge-no _ _ (λ m. omega arith))
 
-  -- e is the individual's element, and x the term's grade there
-  module _ (element : (individual : ℕ) → ℕ) (q : MembershipClaim) (e x : ℕ) (i : e ≡ element (q .individual)) (g : x ≡ grade (q .term) e) where
-    pub membership-met : Claimed (q .sense) (q .grade) x → Meets ≡ membershipVerdict grade element k q
-    unfolding membershipVerdict
-    membership-met = judged-met (claimed? (q .sense) (q .grade)) _ (g ∙ ap (grade (q .term)) i)
+-- each member meets a claim if the individuals below n do that it mentions, where it mentions no others; and one that does not is enough
+module _ (grade : (term element : ℕ) → ℕ) (element : (individual : ℕ) → ℕ) (q : MembershipClaim) where
+  pub members-met : (n : ℕ) → membershipIndividuals q ≤ n → ((j : ℕ) → j < n → MeetsIfMentioned grade element q j) → MembersMeet grade element q
+  members-met n within h = mem-each (q .members) (λ j m. h j (mentioned-below q n within j m) m)
 
-    pub membership-unmet : ¬ Claimed (q .sense) (q .grade) x → BreaksMembership k ≡ membershipVerdict grade element k q
-    unfolding membershipVerdict
-    membership-unmet = judged-unmet (claimed? (q .sense) (q .grade)) _ (g ∙ ap (grade (q .term)) i)
+  pub members-unmet : (j : ℕ) → ¬ MeetsIfMentioned grade element q j → ¬ MembersMeet grade element q
+  members-unmet j n h = n (λ m. each-mem (MeetsMember grade element q) (q .members) h j m)
 
 -- x and y are the links of the two roles from e to f
 module _ (link : (role source target : ℕ) → ℕ) (k : ℕ) (q : RolePair) (e f x y : ℕ) (l : x ≡ link (q .lower) e f) (r : y ≡ link (q .upper) e f) where
@@ -57,16 +51,12 @@ module _ (link : (role source target : ℕ) → ℕ) (k : ℕ) (q : RolePair) (e
   unfolding pairVerdictAt
   pair-unmet h = sym (judge-no _ _ (λ m. omega arith))
 
--- e and f are the individuals' elements, and x the link between them
-module _ (I : Interpretation) (k : ℕ) (q : LinkClaim) (e f x : ℕ) (i : e ≡ I .element (q .source)) (j : f ≡ I .element (q .target))
-    (g : x ≡ I .links (q .role) e f) where
-  pub link-met : q .grade ≤ x → Meets ≡ linkVerdict I k q
-  unfolding linkVerdict
-  link-met = judged-met (decLe (q .grade)) _ (g ∙ ap₂ (I .links (q .role)) i j)
-
-  pub link-unmet : ¬ (q .grade ≤ x) → BreaksLink k ≡ linkVerdict I k q
-  unfolding linkVerdict
-  link-unmet = judged-unmet (decLe (q .grade)) _ (g ∙ ap₂ (I .links (q .role)) i j)
+-- a link claim, by the link x between e and f, which are its individuals' elements
+pub link-told : (I : Interpretation) (q : LinkClaim) (e f x : ℕ) → e ≡ I .element (q .source) → f ≡ I .element (q .target) → x ≡ I .links (q .role) e f
+    → Tells (leb (q .grade) x) (MeetsLink I q)
+link-told I q e f x i j g =
+    let same : x ≡ I .links (q .role) (I .element (q .source)) (I .element (q .target)) = g ∙ ap₂ (I .links (q .role)) i j in
+    tells-map _ (λ h. omega arith) (λ h. omega arith) (tells-le (q .grade) x)
 
 -- ---- a section's records, as a loop goes through them
 

@@ -3,9 +3,10 @@
 use mathlib.Core.List.{List, []}
 use Prim.Native.Nat.{ℕ, suc, _*_, _≤_, _<_}
 use lib.ListN.{length}
+use Rattle.chain.specs.Lists.{Each}
 use Rattle.semantics.specs.Roles.{RolePair}
 use Rattle.semantics.specs.Interpretations.{Interpretation}
-use Rattle.semantics.specs.Books.{MembershipClaim, LinkClaim, membershipIndividuals, linkIndividuals, linkRoles}
+use Rattle.semantics.specs.Books.{MembershipClaim, LinkClaim, Claimed, Mentions, membershipIndividuals, linkIndividuals, linkRoles}
 use Rattle.claims.specs.Rules.{rulesOf, RulesRight}
 use Rattle.claims.specs.Pairs.{pairCount, pairAt, pairsOf}
 use Rattle.claims.specs.Claims.{claimCount, membershipAt, membershipsOf, linkAt, linksOf}
@@ -27,6 +28,17 @@ linkIn n ls = sheet n ls [] .links
 unfoldable pub verdictIn : (rules pairs memberships claims values : List ℕ) (n : ℕ) (links individuals : List ℕ) → Verdict
 verdictIn rs ps ms qs v n ls js = verdictBy (cellAt v) (sheet n ls js) (rulesOf rs) (pairsOf ps) (membershipsOf ms) (linksOf qs)
 
+-- individual j meets the claim, by the terms' grades at the individuals' elements; it does, if the claim mentions it; each member does
+module _ (grade : (term element : ℕ) → ℕ) (element : (individual : ℕ) → ℕ) (q : MembershipClaim) where
+  abbrev pub MeetsMember : (j : ℕ) → Type 0
+  MeetsMember j = Claimed (q .sense) (q .grade) (grade (q .term) (element j))
+
+  abbrev pub MeetsIfMentioned : (j : ℕ) → Type 0
+  MeetsIfMentioned j = Mentions q j → MeetsMember j
+
+  abbrev pub MembersMeet : Type 0
+  MembersMeet = Each MeetsMember (q .members)
+
 -- ---- what there must be
 
 -- every individual sits at one of n elements
@@ -37,7 +49,7 @@ Seated n js = (j : ℕ) → j < length js → elementIn js j < n
 abbrev pub PairCovered : (n : ℕ) → List ℕ → RolePair → Type 0
 PairCovered n ls q = (suc (q .lower) * (n * n) ≤ length ls) × (suc (q .upper) * (n * n) ≤ length ls)
 
--- a column for a membership claim's term, and an element for its individual
+-- a column for a membership claim's term, and elements for its individuals
 abbrev pub MembershipCovered : (v js : List ℕ) → MembershipClaim → Type 0
 MembershipCovered v js q = (q .term < columnCount v) × (membershipIndividuals q ≤ length js)
 

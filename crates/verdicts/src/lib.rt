@@ -5,12 +5,20 @@ ghost use lib.ListN.{length};
 ghost use Rattle.chain.specs.Decisions.{Tells};
 ghost use Rattle.claims.specs.Rules.{ruleCount, ruleAt, rulesOf, RuleRight, RulesRight};
 ghost use Rattle.claims.specs.Pairs.{pairCount, pairAt, pairsOf};
-ghost use Rattle.claims.specs.Claims.{claimCount, membershipAt, membershipsOf, linkAt, linksOf};
+ghost use Rattle.semantics.specs.Books.{membershipIndividuals, MeetsLink};
+ghost use Rattle.claims.specs.Claims.{claimCount, membershipOf, membershipAt, membershipsOf, linkOf, linkAt, linksOf};
 ghost use Rattle.working.specs.Working.{orElse, ruleVerdict, pairVerdictFrom, pairVerdict, membershipVerdict, linkVerdict, rulesVerdict, pairsVerdict, membershipsVerdict, linksVerdict};
 ghost use Rattle.working.specs.declared.Verdict.the-variants.{Meets};
 ghost use Rattle.grids.specs.Columns.{cellAt, columnCount};
-ghost use Rattle.verdicts.specs.Cells.{sheet, elementIn, linkIn, verdictIn, Seated, PairCovered, MembershipCovered, LinkCovered, PairsCovered, MembershipsCovered, LinksCovered, Covered};
+ghost use Rattle.verdicts.specs.Cells.{sheet, elementIn, linkIn, verdictIn, Seated, PairCovered, MeetsIfMentioned, MembersMeet, MembershipCovered, LinkCovered, PairsCovered, MembershipsCovered, LinksCovered, Covered};
+use claims::LinkRecord;
+use claims::MembershipRecord;
 use claims::claimed;
+use claims::link_claim_at;
+use claims::membership_at;
+use claims::mentioned;
+use claims::mentioned_from;
+use claims::mentions;
 use encoding::wide;
 use grids::cell;
 use working::Verdict;
@@ -18,11 +26,11 @@ use working::Verdict;
 // ---- what stands on the sheet
 
 // The element of an individual.
-fn element(individuals: &[u8], j: u8, n: usize) -> usize
+fn element(individuals: &[u8], j: usize, n: usize) -> usize
     requires { ⌜ (j < length (now individuals)) × Seated n (now individuals) ⌝ }
     ensures { λ r. ⌜ (r ≡ elementIn (now (individuals .entry)) j) × (r < n) ⌝ }
 {
-    wide(individuals[wide(j)])
+    wide(individuals[j])
 }
 
 // The grade of a role's link between two of `n` elements.
@@ -128,6 +136,40 @@ fn pairs_verdict(pairs: &[u8], n: usize, links: &[u8]) -> Verdict
 
 // ---- membership claims
 
+// Does individual `j` meet the claim, if this mentions it?
+fn member_meets(
+    claim: MembershipRecord,
+    j: usize,
+    values: &[u8],
+    n: usize,
+    individuals: &[u8],
+) -> bool
+    requires { ⌜ MembershipCovered (now values) (now individuals) (membershipOf claim) × (j < membershipIndividuals (membershipOf claim)) ⌝ }
+    requires { ⌜ (n ≤ 64) × Seated n (now individuals) ⌝ }
+    ensures { λ r. ⌜ Tells r (MeetsIfMentioned (cellAt (now (values .entry))) (elementIn (now (individuals .entry))) (membershipOf claim) j) ⌝ }
+{
+    if !mentions(claim, j) {
+        return true;
+    }
+    claimed(claim, cell(values, claim.term, element(individuals, j, n)))
+}
+
+// Does each individual that the claim mentions meet it?
+fn members_meet(claim: MembershipRecord, values: &[u8], n: usize, individuals: &[u8]) -> bool
+    requires { ⌜ MembershipCovered (now values) (now individuals) (membershipOf claim) × (n ≤ 64) × Seated n (now individuals) ⌝ }
+    ensures { λ r. ⌜ Tells r (MembersMeet (cellAt (now (values .entry))) (elementIn (now (individuals .entry))) (membershipOf claim)) ⌝ }
+{
+    let end = mentioned(claim);
+    let mut j = mentioned_from(claim);
+    while j < end {
+        if !member_meets(claim, j, values, n, individuals) {
+            return false;
+        }
+        j += 1;
+    }
+    true
+}
+
 fn membership_verdict(
     memberships: &[u8],
     i: usize,
@@ -139,9 +181,7 @@ fn membership_verdict(
     requires { ⌜ (n ≤ 64) × Seated n (now individuals) ⌝ }
     ensures { λ r. ⌜ r ≡ membershipVerdict (cellAt (now (values .entry))) (elementIn (now (individuals .entry))) i (membershipAt (now (memberships .entry)) i) ⌝ }
 {
-    let e = element(individuals, memberships[4 * i], n);
-    let actual = cell(values, memberships[4 * i + 1], e);
-    if claimed(memberships[4 * i + 2], memberships[4 * i + 3], actual) {
+    if members_meet(membership_at(memberships, i), values, n, individuals) {
         return Verdict::Meets;
     }
     Verdict::BreaksMembership(i)
@@ -166,14 +206,21 @@ fn memberships_verdict(memberships: &[u8], values: &[u8], n: usize, individuals:
 
 // ---- link claims
 
+fn link_meets(claim: LinkRecord, n: usize, links: &[u8], individuals: &[u8]) -> bool
+    requires { ⌜ LinkCovered n (now links) (now individuals) (linkOf claim) × (n ≤ 64) × Seated n (now individuals) ⌝ }
+    ensures { λ r. ⌜ Tells r (MeetsLink (sheet n (now (links .entry)) (now (individuals .entry))) (linkOf claim)) ⌝ }
+{
+    let e = element(individuals, wide(claim.source), n);
+    let f = element(individuals, wide(claim.target), n);
+    claim.grade <= link(links, n, claim.role, e, f)
+}
+
 fn link_verdict(claims: &[u8], i: usize, n: usize, links: &[u8], individuals: &[u8]) -> Verdict
     requires { ⌜ (i < claimCount (now claims)) × LinkCovered n (now links) (now individuals) (linkAt (now claims) i) ⌝ }
     requires { ⌜ (n ≤ 64) × Seated n (now individuals) ⌝ }
     ensures { λ r. ⌜ r ≡ linkVerdict (sheet n (now (links .entry)) (now (individuals .entry))) i (linkAt (now (claims .entry)) i) ⌝ }
 {
-    let e = element(individuals, claims[4 * i + 1], n);
-    let f = element(individuals, claims[4 * i + 2], n);
-    if claims[4 * i + 3] <= link(links, n, claims[4 * i], e, f) {
+    if link_meets(link_claim_at(claims, i), n, links, individuals) {
         return Verdict::Meets;
     }
     Verdict::BreaksLink(i)

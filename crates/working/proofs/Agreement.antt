@@ -12,7 +12,8 @@ use Rattle.chain.proofs.Lists.{each-map₂, each-map₃, each-at, each-highest}
 use Rattle.semantics.specs.Terms.{Term, name, not, and, or, some, all, top, bottom, term, local}
 use Rattle.semantics.specs.Roles.{RolePair}
 use Rattle.semantics.specs.Interpretations.{Grading, Interpretation, WellFormed, OnChain, Agree, atElements, gradeAt}
-use Rattle.semantics.specs.Books.{Rule, MembershipClaim, LinkClaim, Book, Valid, RuleInRange, TermInRange, nameAbove, roleAbove, linkRoles, pairRoles, membershipIndividuals, linkIndividuals, nameCount, roleCount, individuals, MeetsRule, MeetsPair, MeetsMembership, MeetsLink, RuleModel, MeetsClaims}
+use Rattle.semantics.specs.Books.{Rule, MembershipClaim, LinkClaim, Book, Valid, RuleInRange, TermInRange, nameAbove, roleAbove, linkRoles, pairRoles, membershipIndividuals, linkIndividuals, nameCount, roleCount, individuals, MeetsRule, MeetsPair, MemberMeets, MeetsMembership, MeetsLink, RuleModel, MeetsClaims}
+use Rattle.semantics.proofs.Claims.{members-map}
 use Rattle.semantics.proofs.Interpretations.{gradeAt-local, gradeAt-unique}
 use Rattle.working.specs.Working.{verdictOf}
 use Rattle.working.specs.declared.Verdict.the-variants.{Meets}
@@ -76,8 +77,9 @@ module _ (B : Book) (M K : Interpretation) (v : Valid B) (same : Agree (nameCoun
 
   module _ (on : OnChain (G .steps) M) where
     membership-agree : (q : MembershipClaim) → TermInRange G q → membershipIndividuals q ≤ individuals B → MeetsMembership G M q → MeetsMembership G K q
-    membership-agree q t j h =
-        rw (same .element-same (q .individual) j, ← grade-agree (q .term) t (M .element (q .individual)) (on .element-lt (q .individual))) h
+    membership-agree q t within =
+        members-map q (individuals B) within {P = MemberMeets G M q} {Q = MemberMeets G K q} (λ j l h.
+        rw (same .element-same j l, ← grade-agree (q .term) t (M .element j) (on .element-lt j)) h)
 
     link-agree : (q : LinkClaim) → linkRoles q ≤ roleCount B → linkIndividuals q ≤ individuals B → MeetsLink M q → MeetsLink K q
     link-agree q r j h =

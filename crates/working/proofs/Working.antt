@@ -12,10 +12,10 @@ use lib.ListN.{length, getD}
 use borrow.Author.Count.{below-none, below-more}
 use Rattle.chain.specs.Lists.{Each, table}
 use Rattle.chain.proofs.Search.{below-cases}
-use Rattle.chain.proofs.Lists.{each-at, length-table, getD-table}
+use Rattle.chain.proofs.Lists.{each-map, each-at, length-table, getD-table}
 use Rattle.semantics.specs.Roles.{RolePair}
 use Rattle.semantics.specs.Interpretations.{Grading, Interpretation, gradeAt}
-use Rattle.semantics.specs.Books.{Rule, MembershipClaim, LinkClaim, Book, claimed?, MeetsRule, MeetsPair, MeetsMembership, MeetsLink}
+use Rattle.semantics.specs.Books.{Rule, MembershipClaim, LinkClaim, Book, Claimed, MeetsRule, MeetsPair, MeetsMembership, MeetsLink}
 use Rattle.working.specs.Working.{Broken, judge, orElse, firstBroken, nthRule, nthPair, nthMembership, ruleVerdictAt, ruleVerdict, pairVerdictAt, pairVerdictFrom, pairVerdict, membershipVerdict, linkVerdict, rulesVerdict, pairsVerdict, membershipsVerdict, linksVerdict, verdictBy, verdictOf}
 use Rattle.working.specs.Working.{FirstFailing, MeetsRuleAt, MeetsPairAt, MeetsPairFrom, RulesMet, PairsMet, MembershipsMet, LinksMet, Says}
 use Rattle.working.specs.declared.Verdict.{Verdict}
@@ -61,6 +61,11 @@ module _ {A : Type 0} (d : Dec A) (v : Verdict) where
 
   pub judge-meets : Broken v → (judge d v ≡ Meets) ↔ A
   judge-meets b = (λ e. Dec·not-not d .0 (λ n. b (sym (judge-no n) ∙ e)), judge-yes)
+
+-- by another decision, of a fact that holds exactly when the first does
+pub judge-same : {A B : Type 0} (d : Dec A) (e : Dec B) (v : Verdict) → A ↔ B → judge d v ≡ judge e v
+judge-same (yes a) e v i = judge-yes (yes a) v a ∙ sym (judge-yes e v (i .0 a))
+judge-same (no n) e v i = judge-no (no n) v n ∙ sym (judge-no e v (λ b. n (i .1 b)))
 
 module _ (v w : Verdict) where
   pub else-first : Broken v → orElse v w ≡ v
@@ -160,7 +165,13 @@ module _ (g h : (i e : ℕ) → ℕ) (I : Interpretation) (t : ℕ) (same : (i :
   membership-same : (k : ℕ) (q : MembershipClaim) → q .term < t → membershipVerdict g (I .element) k q ≡ membershipVerdict h (I .element) k q
   unfolding membershipVerdict
   membership-same k q r =
-      ap (λ (x : ℕ). judge (claimed? (q .sense) (q .grade) x) (BreaksMembership k)) (same (q .term) r (I .element (q .individual)) (seated (q .individual)))
+      judge-same _ _ _ (
+        each-map {P = λ j. Claimed (q .sense) (q .grade) (g (q .term) (I .element j))} (λ j c. rw (← alike j) c) (q .members),
+        each-map {P = λ j. Claimed (q .sense) (q .grade) (h (q .term) (I .element j))} (λ j c. rw (alike j) c) (q .members),
+      )
+    where
+      alike : (j : ℕ) → g (q .term) (I .element j) ≡ h (q .term) (I .element j)
+      alike j = same (q .term) r (I .element j) (seated j)
 
   pub verdict-same : (rs : List Rule) (ps : List RolePair) (ms : List MembershipClaim) (ls : List LinkClaim)
       → Each (λ q. (q .left < t) × (q .right < t)) rs → Each (λ q. q .term < t) ms → verdictBy g I rs ps ms ls ≡ verdictBy h I rs ps ms ls

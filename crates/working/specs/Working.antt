@@ -3,11 +3,11 @@
 -- after the rules and before the claims, with its lowest first, then second element."
 -- Assumes nothing.
 use mathlib.Core.Path.{_≡_}
-use mathlib.Core.List.{List}
+use mathlib.Core.List.{List, []}
 use Prim.Native.Nat.{ℕ, zero, suc, _≤_, _<_}
 use native.Mathlib.Decide.{decLe}
 use lib.ListN.{length, getD}
-use Rattle.chain.specs.Lists.{Each}
+use Rattle.chain.specs.Lists.{Each, each?}
 use Rattle.semantics.specs.Roles.{RolePair}
 use Rattle.semantics.specs.Interpretations.{Grading, Interpretation, gradeAt}
 use Rattle.semantics.specs.Books.{Rule, at-least, MembershipClaim, LinkClaim, Book, claimed?, MeetsRule, MeetsPair, MeetsMembership, MeetsLink}
@@ -47,7 +47,7 @@ abbrev pub nthPair : List RolePair → ℕ → RolePair
 nthPair ps k = getD ps k (record { lower = 0; upper = 0 })
 
 abbrev pub nthMembership : List MembershipClaim → ℕ → MembershipClaim
-nthMembership ms k = getD ms k (record { individual = 0; term = 0; sense = at-least; grade = 0 })
+nthMembership ms k = getD ms k (record { members = []; term = 0; sense = at-least; grade = 0 })
 
 abbrev pub nthLink : List LinkClaim → ℕ → LinkClaim
 nthLink ls k = getD ls k (record { role = 0; source = 0; target = 0; grade = 0 })
@@ -64,8 +64,9 @@ module _ (grade : (term element : ℕ) → ℕ) where
   ruleVerdict n k q = firstBroken (ruleVerdictAt k q) n
 
   unfoldable pub membershipVerdict : (element : (individual : ℕ) → ℕ) (k : ℕ) → MembershipClaim → Verdict
-  unfolding claimed?
-  membershipVerdict element k q = judge (claimed? (q .sense) (q .grade) (grade (q .term) (element (q .individual)))) (BreaksMembership k)
+  unfolding each? claimed?
+  membershipVerdict element k q =
+      judge (each? (λ j. claimed? (q .sense) (q .grade) (grade (q .term) (element j))) (q .members)) (BreaksMembership k)
 
 -- a pair, by the links
 module _ (link : (role source target : ℕ) → ℕ) where
