@@ -12,7 +12,8 @@ use Rattle.chain.proofs.Lists.{each-map₂, each-map₃, each-at, each-highest}
 use Rattle.semantics.specs.Terms.{Term, name, not, and, or, some, all, top, bottom, term, local}
 use Rattle.semantics.specs.Roles.{RolePair}
 use Rattle.semantics.specs.Interpretations.{Grading, Interpretation, WellFormed, OnChain, Agree, atElements, gradeAt}
-use Rattle.semantics.specs.Books.{Rule, MembershipClaim, LinkClaim, Book, Valid, RuleInRange, TermInRange, nameAbove, roleAbove, linkRoles, pairRoles, membershipIndividuals, linkIndividuals, nameCount, roleCount, individuals, MeetsRule, MeetsPair, MemberMeets, MeetsMembership, MeetsLink, RuleModel, MeetsClaims}
+use Rattle.semantics.specs.Books.{Rule, MembershipClaim, LinkClaim, Book, Valid, RuleInRange, TermInRange, nameAbove, roleAbove}
+use Rattle.semantics.specs.Books.{linkRoles, pairRoles, membershipIndividuals, linkIndividuals, nameCount, roleCount, individuals, MeetsRule, MeetsPair, MemberMeets, MeetsMembership, MeetsLink, RuleModel, MeetsClaims}
 use Rattle.semantics.proofs.Claims.{members-map}
 use Rattle.semantics.proofs.Interpretations.{gradeAt-local, gradeAt-unique}
 use Rattle.working.specs.Working.{verdictOf}

@@ -16,7 +16,8 @@ use Rattle.chain.proofs.Lists.{each-map, each-at, length-table, getD-table}
 use Rattle.semantics.specs.Roles.{RolePair}
 use Rattle.semantics.specs.Interpretations.{Grading, Interpretation, gradeAt}
 use Rattle.semantics.specs.Books.{Rule, MembershipClaim, LinkClaim, Book, Claimed, MeetsRule, MeetsPair, MeetsMembership, MeetsLink}
-use Rattle.working.specs.Working.{Broken, judge, orElse, firstBroken, nthRule, nthPair, nthMembership, ruleVerdictAt, ruleVerdict, pairVerdictAt, pairVerdictFrom, pairVerdict, membershipVerdict, linkVerdict, rulesVerdict, pairsVerdict, membershipsVerdict, linksVerdict, verdictBy, verdictOf}
+use Rattle.working.specs.Working.{Broken, judge, orElse, firstBroken, nthRule, nthPair, nthMembership, ruleVerdictAt, ruleVerdict, pairVerdictAt, pairVerdictFrom}
+use Rattle.working.specs.Working.{pairVerdict, membershipVerdict, linkVerdict, rulesVerdict, pairsVerdict, membershipsVerdict, linksVerdict, verdictBy, verdictOf}
 use Rattle.working.specs.Working.{FirstFailing, MeetsRuleAt, MeetsPairAt, MeetsPairFrom, RulesMet, PairsMet, MembershipsMet, LinksMet, Says}
 use Rattle.working.specs.declared.Verdict.{Verdict}
 use Rattle.working.specs.declared.Verdict.the-variants.{Meets, BreaksRule, BreaksPair, BreaksMembership, BreaksLink}

@@ -61,7 +61,15 @@ shared-slice-read-t11 c = search needs
 returns : tie.Need-returns
 unfolding sectionsOf
 returns c =
-    simp (c .before .before .before .before .before .before .head-of .ensures, c .before .before .before .before .before .word .ensures .0, c .before .before .before .before .word2 .ensures .0, c .before .before .before .word3 .ensures .0, c .before .before .word4 .ensures .0, c .before .count-pairs .ensures .0)
+    let w = c .before .before .before in
+    simp (
+      w .before .before .before .head-of .ensures,
+      w .before .before .word .ensures .0,
+      w .before .word2 .ensures .0,
+      w .word3 .ensures .0,
+      c .before .before .word4 .ensures .0,
+      c .before .count-pairs .ensures .0,
+    )
 
 pub sections-of-spec : {M : Type 1} → statement M
 sections-of-spec =

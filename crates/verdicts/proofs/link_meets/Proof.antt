@@ -27,7 +27,8 @@ returns : tie.Need-returns
 returns c =
     let a = c .before .before .before .before .before .before .before .before .args in
     let js = a .individuals .now in
-    link-told (sheet (a .n) (a .links .now) js) (linkOf (a .claim)) _ _ _ (c .before .before .before .before .element .ensures .0 ∙ ap (elementIn js) (c .before .before .before .before .before .wide .ensures .0))
+    link-told (sheet (a .n) (a .links .now) js) (linkOf (a .claim)) _ _ _
+    (c .before .before .before .before .element .ensures .0 ∙ ap (elementIn js) (c .before .before .before .before .before .wide .ensures .0))
     (c .before .before .element2 .ensures .0 ∙ ap (elementIn js) (c .before .before .before .wide2 .ensures .0)) (c .before .link .ensures)
 
 pub link-meets-spec : {M : Type 1} → statement M

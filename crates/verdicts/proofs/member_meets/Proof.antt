@@ -25,7 +25,8 @@ claimed-requires c κs = search needs
 returns-2 : tie.Need-returns-2
 returns-2 c =
     let i = c .before .before .before in
-    let g = c .before .cell .ensures ∙ ap (cellAt (i .before .before .before .before .args .values .now) (i .before .before .before .before .args .claim .term)) (c .before .before .element .ensures .0) in
+    let a = i .before .before .before .before .args in
+    let g = c .before .cell .ensures ∙ ap (cellAt (a .values .now) (a .claim .term)) (c .before .before .element .ensures .0) in
     tells-map _ (λ h _. rw (← g) h) (λ h. rw g (h (told-yes _ (i .before .mentions .ensures) (i .if1 .left)))) (c .claimed .ensures)
 
 pub member-meets-spec : {M : Type 1} → statement M

@@ -35,7 +35,8 @@ member-meets-requires c κs =
 returns : tie.Need-returns Inv-loop μ-loop
 returns c =
     let s = c .before .before .before .before .before .before .before .before .args in
-    tells-no (members-unmet (cellAt (s .values .now)) (elementIn (s .individuals .now)) (membershipOf (s .claim)) (c .before .before .before .loop .j) (told-no _ (c .before .member-meets .ensures) (c .if1 .taken)))
+    tells-no (members-unmet (cellAt (s .values .now)) (elementIn (s .individuals .now)) (membershipOf (s .claim))
+    (c .before .before .before .loop .j) (told-no _ (c .before .member-meets .ensures) (c .if1 .taken)))
 
 add-j : tie.Need-add-j Inv-loop μ-loop
 add-j c = search needs
@@ -49,7 +50,8 @@ loop-again c = below-more _ (c .before .before .before .loop .j) (c .before .bef
 returns-2 : tie.Need-returns-2 Inv-loop μ-loop
 returns-2 c =
     let s = c .before .before .before .before .before .before .args in
-    tells-yes (members-met (cellAt (s .values .now)) (elementIn (s .individuals .now)) (membershipOf (s .claim)) (c .before .loop .j) (omega (arith, c .before .before .before .mentioned .ensures)) (c .before .loop .inv))
+    tells-yes (members-met (cellAt (s .values .now)) (elementIn (s .individuals .now)) (membershipOf (s .claim))
+    (c .before .loop .j) (omega (arith, c .before .before .before .mentioned .ensures)) (c .before .loop .inv))
 
 pub members-meet-spec : {M : Type 1} → statement M
 members-meet-spec =

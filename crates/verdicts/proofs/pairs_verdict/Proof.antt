@@ -30,7 +30,9 @@ met-requires : tie.Need-met-requires Inv-loop μ-loop
 met-requires c κs = search needs
 
 returns : tie.Need-returns Inv-loop μ-loop
-returns c = first-found _ _ (c .before .before .before .before .loop .i) _ (omega arith) (c .before .before .before .before .loop .inv .1) (c .before .before .pair-verdict .ensures) (told-no _ (c .before .met .ensures) (c .if1 .taken)) ∙ sym (pairs-first _ _ _)
+returns c =
+    let l = c .before .before .before .before .loop in
+    first-found _ _ (l .i) _ (omega arith) (l .inv .1) (c .before .before .pair-verdict .ensures) (told-no _ (c .before .met .ensures) (c .if1 .taken)) ∙ sym (pairs-first _ _ _)
 
 add-i : tie.Need-add-i Inv-loop μ-loop
 add-i c = search needs
