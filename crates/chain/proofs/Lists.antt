@@ -2,7 +2,7 @@
 -- Assumes nothing.
 use mathlib.Core.Path.{_≡_, refl, sym, ap, ap₂, subst, _∙_}
 use mathlib.Core.Logic.{_⊎_, inl, inr, ⊎-elim, ite, _↔_}
-use mathlib.Core.List.{List, [], _∷_, _++_, flatMap, append-nil, append-assoc}
+use mathlib.Core.List.{List, [], _∷_, _++_, map, flatMap, zipWith, append-nil, append-assoc}
 use Prim.Native.Nat.{ℕ, zero, suc, _+_, _≤_, _<_, max}
 use native.Mathlib.Nat.{not-suc-le-zero, add-zero, zero-add, suc-add, add-suc}
 use native.Mathlib.Decide.{ℕ-discrete}
@@ -39,6 +39,12 @@ module _ {A : Type 0} where
   each-map₃ f [] h g k = tt
   each-map₃ f (x ∷ xs) h g k = (f x (h .0) (g .0) (k .0), each-map₃ f xs (h .1) (g .1) (k .1))
 
+  pub each-append : (P : A → Type 0) (xs ys : List A) → Each P (xs ++ ys) ↔ (Each P xs × Each P ys)
+  each-append P [] ys = (λ h. (tt, h), λ h. h .1)
+  each-append P (x ∷ xs) ys =
+      let w = each-append P xs ys in
+      (λ h. let u = w .0 (h .1) in ((h .0, u .0), u .1), λ h. (h .0 .0, w .1 (h .0 .1, h .1)))
+
   pub each-mem : (P : A → Type 0) (xs : List A) → Each P xs → (x : A) → Mem x xs → P x
   each-mem P [] h x m = absurd m
   each-mem P (y ∷ ys) h x (inl e) = subst P (sym e) (h .0)
@@ -66,6 +72,11 @@ module _ {A : Type 0} where
   )
 
   -- ---- the highest
+
+  pub highest-each : (f : A → ℕ) (xs : List A) (n : ℕ) → Each (λ x. f x ≤ n) xs → highest f xs ≤ n
+  unfolding highest
+  highest-each f [] n h = omega arith
+  highest-each f (x ∷ xs) n h = omega (arith, h .0, highest-each f xs n (h .1))
 
   pub each-highest : (f : A → ℕ) (xs : List A) (n : ℕ) → highest f xs ≤ n → Each (λ x. f x ≤ n) xs
   unfolding highest
@@ -221,6 +232,32 @@ keep-same {A} {P} {Q} p q (x ∷ xs) h = go (p x) (q x) (keep-same p q xs (λ y 
     go (no n) (no m) ih = ih
 
 -- the highest of a table, from other tables entry by entry
+pub each-mapped : {A B : Type 0} (P : B → Type 0) (f : A → B) (Q : A → Type 0) → ((x : A) → P (f x) ↔ Q x) → (xs : List A) → Each P (map f xs) ↔ Each Q xs
+each-mapped P f Q same [] = (λ _. tt, λ _. tt)
+each-mapped P f Q same (x ∷ xs) =
+    let w = each-mapped P f Q same xs in
+    (λ h. (same x .0 (h .0), w .0 (h .1)), λ h. (same x .1 (h .0), w .1 (h .1)))
+
+pub each-flatMap : {A B : Type 0} (P : B → Type 0) (f : A → List B) (xs : List A) → Each (λ x. Each P (f x)) xs → Each P (flatMap f xs)
+unfolding flatMap
+each-flatMap P f [] h = tt
+each-flatMap P f (x ∷ xs) h = each-append P (f x) (flatMap f xs) .1 (h .0, each-flatMap P f xs (h .1))
+
+pub table-map : {A B : Type 0} (f : A → B) (g : ℕ → A) (n : ℕ) → table (λ i. f (g i)) n ≡ map f (table g n)
+unfolding table
+table-map f g zero = refl
+table-map {B = B} f g (suc n) = ap {B = List B} (λ ys. f (g zero) ∷ ys) (table-map f (λ i. g (suc i)) n)
+
+pub highest-append : {A : Type 0} (f : A → ℕ) (xs ys : List A) → highest f (xs ++ ys) ≡ max (highest f xs) (highest f ys)
+unfolding highest
+highest-append f [] ys = omega arith
+highest-append f (x ∷ xs) ys = omega (arith, highest-append f xs ys)
+
+pub zip-tables : {A B C : Type 0} (f : A → B → C) (a : ℕ → A) (b : ℕ → B) (n : ℕ) → zipWith f (table a n) (table b n) ≡ table (λ i. f (a i) (b i)) n
+unfolding zipWith table
+zip-tables f a b zero = refl
+zip-tables {C = C} f a b (suc n) = ap {B = List C} (λ xs. f (a zero) (b zero) ∷ xs) (zip-tables f (λ i. a (suc i)) (λ i. b (suc i)) n)
+
 pub highest-same : {A B : Type 0} (f : A → ℕ) (g : B → ℕ) (a : ℕ → A) (b : ℕ → B) (n : ℕ) → ((i : ℕ) → f (a i) ≡ g (b i))
     → highest f (table a n) ≡ highest g (table b n)
 unfolding highest table
