@@ -2,3 +2,4 @@ pub mod Rules
 pub mod Pairs
 pub mod Claims
 pub mod Books
+pub mod Sets

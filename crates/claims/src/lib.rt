@@ -6,6 +6,8 @@ ghost use Rattle.semantics.specs.Books.{Claimed, Mentions, membershipIndividual
 ghost use Rattle.claims.specs.Rules.{ruleCount, RuleRight, RulesRight};
 ghost use Rattle.claims.specs.Pairs.{PairsRight};
 ghost use Rattle.claims.specs.Claims.{claimCount, membershipOf, membershipRecord, MembershipRight, MembershipsRight, linkOf, linkRecord, LinkRight, LinksRight};
+use encoding::above_bits;
+use encoding::bit;
 use encoding::wide;
 
 // ---- rules: two bytes each (check 7)
@@ -46,14 +48,16 @@ pub fn pairs_right(s: &[u8]) -> bool
 
 // ---- claims: four bytes each (checks 8 and 9)
 
-// Individuals and roles are 0 to 7; a sense is "at least" or "at most".
+// Individuals and roles are 0 to 7; a sense is "at least" or "at most", for an individual or, from 2 on, for a set.
 const INDIVIDUALS: u8 = 8;
 
 const ROLES: u8 = 8;
 
-const SENSES: u8 = 2;
+const SETS: u8 = 2;
 
-// A membership claim's bytes: whom it names, its term, its sense and the grade claimed.
+const SENSES: u8 = 4;
+
+// A membership claim's bytes: whom it names, an individual or a set, its term, its sense and the grade claimed.
 pub struct MembershipRecord {
     pub named: u8,
     pub term: u8,
@@ -93,10 +97,20 @@ pub fn link_claim_at(s: &[u8], i: usize) -> LinkRecord
     }
 }
 
+// Is whom the claim names an individual 0 to 7, or a set? Every byte is a set.
+fn named_right(claim: MembershipRecord) -> bool
+    ensures { λ r. ⌜ Tells r (claim .sense < 2 → claim .named < 8) ⌝ }
+{
+    if SETS <= claim.sense {
+        return true;
+    }
+    claim.named < INDIVIDUALS
+}
+
 fn membership_right(claim: MembershipRecord, steps: u8, n: usize) -> bool
     ensures { λ r. ⌜ Tells r (MembershipRight steps n claim) ⌝ }
 {
-    if INDIVIDUALS <= claim.named {
+    if !named_right(claim) {
         return false;
     }
     if n <= wide(claim.term) {
@@ -159,21 +173,33 @@ pub fn links_right(s: &[u8], steps: u8) -> bool
 pub fn mentions(claim: MembershipRecord, j: usize) -> bool
     ensures { λ r. ⌜ Tells r (Mentions (membershipOf claim) j) ⌝ }
 {
-    wide(claim.named) == j
+    if claim.sense < SETS {
+        return wide(claim.named) == j;
+    }
+    if 8 <= j {
+        return false;
+    }
+    bit(claim.named, j)
 }
 
 // It mentions no individual below this one: where a search for those that it mentions may start.
 pub fn mentioned_from(claim: MembershipRecord) -> usize
     ensures { λ r. ⌜ ((j : ℕ) → Mentions (membershipOf claim) j → r ≤ j) ⌝ }
 {
-    wide(claim.named)
+    if claim.sense < SETS {
+        return wide(claim.named);
+    }
+    0
 }
 
-// One more than the highest individual that it mentions.
+// One more than the highest individual that it mentions; 0 if it mentions none.
 pub fn mentioned(claim: MembershipRecord) -> usize
     ensures { λ r. ⌜ r ≡ membershipIndividuals (membershipOf claim) ⌝ }
 {
-    wide(claim.named) + 1
+    if claim.sense < SETS {
+        return wide(claim.named) + 1;
+    }
+    above_bits(claim.named)
 }
 
 // Is the grade at least, or at most, the one claimed?
@@ -181,6 +207,9 @@ pub fn claimed(claim: MembershipRecord, actual: u8) -> bool
     ensures { λ r. ⌜ Tells r (Claimed (membershipOf claim .sense) (membershipOf claim .grade) actual) ⌝ }
 {
     if claim.sense == 0 {
+        return claim.grade <= actual;
+    }
+    if claim.sense == 2 {
         return claim.grade <= actual;
     }
     actual <= claim.grade

@@ -1,5 +1,5 @@
 -- Books (knowledge bases): rules (concept inclusions), pairs of roles (role inclusions), membership claims (concept assertions), link claims (role
--- assertions), and when an interpretation meets them. Document 01, "The book", and document 02, P1.
+-- assertions), and when an interpretation meets them. Document 01, "The book", and document 02, P1 and P2.
 -- Assumes nothing.
 use mathlib.Core.Path.{_≡_}
 use mathlib.Core.List.{List}
@@ -29,7 +29,7 @@ unfolding decLe
 claimed? at-least g x = decLe g x
 claimed? at-most g x = decLe x g
 
--- about the individuals that it names, its members
+-- about the individuals that it names, its members: one, or those of a set
 pub record MembershipClaim : Type 0 where
   pub members : List ℕ
   pub term : ℕ
@@ -132,6 +132,7 @@ module _ (G : Grading) (I : Interpretation) where
   abbrev pub MemberMeets : MembershipClaim → (individual : ℕ) → Type 0
   MemberMeets q j = Claimed (q .sense) (q .grade) (gradeAt G I (q .term) (I .element j))
 
+  -- "the claim holds when each member meets it" (document 02, P2)
   abbrev pub MeetsMembership : MembershipClaim → Type 0
   MeetsMembership q = Each (MemberMeets q) (q .members)
 

@@ -25,7 +25,9 @@ link-right-requires : tie.Need-link-right-requires Inv-loop μ-loop
 link-right-requires c κs = search needs
 
 returns : tie.Need-returns Inv-loop μ-loop
-returns c = tells-no (λ h. told-no _ (c .before .link-right .ensures) (c .if1 .taken) (rw (c .before .before .link-claim-at .ensures) (h (c .before .before .before .before .loop .i) (omega arith))))
+returns c =
+    let l = c .before .before .before .before .loop in
+    tells-no (λ h. told-no _ (c .before .link-right .ensures) (c .if1 .taken) (rw (c .before .before .link-claim-at .ensures) (h (l .i) (omega arith))))
 
 add-i : tie.Need-add-i Inv-loop μ-loop
 add-i c = search needs
@@ -34,7 +36,10 @@ loop-less : tie.Need-loop-less Inv-loop μ-loop
 loop-less c = search needs
 
 loop-again : tie.Need-loop-again Inv-loop μ-loop
-loop-again c = (omega arith, below-more _ (c .before .before .before .before .loop .i) (c .before .before .before .before .loop .inv .1) (rw (c .before .before .link-claim-at .ensures) at (told-yes _ (c .before .link-right .ensures) (c .if1 .left))))
+loop-again c =
+    let l = c .before .before .before .before .loop in
+    let here = rw (c .before .before .link-claim-at .ensures) at (told-yes _ (c .before .link-right .ensures) (c .if1 .left)) in
+    (omega arith, below-more _ (l .i) (l .inv .1) here)
 
 returns-2 : tie.Need-returns-2 Inv-loop μ-loop
 returns-2 c = tells-yes (λ j l. c .before .loop .inv .1 j (omega arith))
