@@ -1,28 +1,32 @@
 -- Laws of writing: an accepted book's bytes are those written for its reading, so no other accepted book is read as it is.
 -- Assumes nothing.
-use mathlib.Core.Path.{_≡_, refl, sym, ap₂, _∙_}
-use mathlib.Core.List.{List, [], _∷_, flatMap}
-use Prim.Native.Nat.{ℕ, zero, suc, _+_, _*_, _≤_, _<_}
-use native.Mathlib.Decide.{ℕ-discrete}
+use mathlib.Core.Path.{_≡_, refl, sym, ap, _∙_}
+use mathlib.Core.Logic.{if-pos, if-neg}
+use mathlib.Core.List.{List, [], _∷_, flatMap, zipWith}
+use Prim.Native.Nat.{ℕ, _+_, _*_, _≤_, _<_}
+use native.Mathlib.Decide.{ℕ-discrete, decLt}
 use native.Mathlib.Omega.{arith}
-use lib.ListN.{length, take, drop}
+use lib.ListN.{length, getD, take, drop}
 use lib.Seq.{take-all, take-add, drop-drop}
 use Rattle.chain.specs.Lists.{table}
+use Rattle.chain.proofs.Lists.{zip-tables}
 use Rattle.chain.proofs.Blocks.{take-table, blocks-front}
 use Rattle.encoding.specs.Words.{Bytes, wordAt, wordBytes}
+use Rattle.encoding.specs.Bits.{bitsOf, byteOf}
 use Rattle.encoding.proofs.Words.{word-written}
-use Rattle.encoding.proofs.Stretches.{stretch-length, stretch-next}
+use Rattle.encoding.proofs.Bits.{byte-of-bits}
+use Rattle.encoding.proofs.Stretches.{bytes-stretch, stretch-length, stretch-next}
 use Rattle.sections.specs.Terms.{termOf, Described}
-use Rattle.claims.specs.Claims.{senseOf, membershipRecord}
+use Rattle.claims.specs.Claims.{membersOf, claimCount, membershipRecord, membershipAt, membershipsOf}
 use Rattle.sections.proofs.Terms.{by-kind, described-kind, terms-bytes}
 use Rattle.claims.proofs.Rules.{rules-bytes}
-use Rattle.claims.proofs.Claims.{memberships-bytes, links-bytes}
+use Rattle.claims.proofs.Claims.{members-one, members-set, memberships-bytes, links-bytes}
 use Rattle.claims.proofs.Pairs.{pairs-bytes}
 use Rattle.layout.specs.Layout.{edition, steps, countAt, countOfPairs, head, sectionsOf, termBytes, ruleBytes, membershipBytes, linkBytes, pairBytes}
 use Rattle.layout.proofs.Editions.{edition-second, edition-other, head-second, head-other}
 use Rattle.book.specs.Reading.{bookOf}
 use Rattle.book.specs.Opening.{Accepts, Right}
-use Rattle.book.specs.Writing.{termBytesOf, ruleBytesOf, senseByte, membershipBytesOf, linkBytesOf, pairBytesOf, entriesOf, bytesOf}
+use Rattle.book.specs.Writing.{termBytesOf, ruleBytesOf, firstByte, membershipBytesOf, sensesIn, linkBytesOf, pairBytesOf, entriesOf, bytesOf}
 use Rattle.book.proofs.Opening.{accepts-right}
 
 -- ---- the bodies: each record is written as its bytes
@@ -40,10 +44,20 @@ term-written i kind a b d =
     both : (k : ℕ) → a ≡ 0 → b ≡ 0 → k ∷ 0 ∷ 0 ∷ [] ≡ k ∷ a ∷ b ∷ []
     both k e f = rw (e, f)
 
-sense-written : (k : ℕ) → k < 2 → senseByte (senseOf k) ≡ k
-sense-written zero h = refl
-sense-written (suc zero) h = refl
-sense-written (suc (suc k)) h = absurd (omega arith)
+first-written : (k x : ℕ) → x < 256 → firstByte k (membersOf k x) ≡ x
+first-written k x h = go (decLt k 2)
+  where
+    go : Dec (k < 2) → firstByte k (membersOf k x) ≡ x
+    go (yes l) = rw (members-one k x l) (if-pos (decLt k 2) l x (byteOf (x ∷ [])))
+    go (no n) = rw (members-set k x n) (if-neg (decLt k 2) n (getD (bitsOf x) 0 0) (byteOf (bitsOf x)) ∙ byte-of-bits x h)
+
+memberships-written : (s : List ℕ) (n : ℕ) → Bytes s → length s ≡ 4 * n
+    → (flatMap (λ r. r) (zipWith membershipBytesOf (sensesIn s) (membershipsOf s)) ≡ s) × (length (membershipsOf s) ≡ n)
+unfolding membershipsOf
+memberships-written s n bytes e =
+    let w = memberships-bytes s (λ i. membershipBytesOf (membershipRecord s i .sense) (membershipAt s i)) n e
+    (λ i h. rw (first-written (membershipRecord s i .sense) (membershipRecord s i .named) (bytes (4 * i))) refl) in
+    (ap (flatMap (λ r. r)) (zip-tables membershipBytesOf (λ i. membershipRecord s i .sense) (membershipAt s) (claimCount s)) ∙ w .0, w .1)
 
 -- ---- the contents
 
@@ -87,7 +101,7 @@ module _ (b : List ℕ) (bytes : Bytes b) where
 -- ---- the book
 
 -- an accepted book is written as it was read
-pub bytesOf-bookOf : (b : List ℕ) → Bytes b → Accepts b → bytesOf (edition b) (bookOf b) ≡ b
+pub bytesOf-bookOf : (b : List ℕ) → Bytes b → Accepts b → bytesOf (edition b) (sensesIn (membershipBytes b (sectionsOf b))) (bookOf b) ≡ b
 unfolding bytesOf bookOf sectionsOf table
 bytesOf-bookOf b bytes accepts =
     let ok = accepts-right b accepts in
@@ -100,8 +114,8 @@ bytesOf-bookOf b bytes accepts =
     let terms = terms-bytes (termBytes b s) termBytesOf (countAt b 0) (stretch-length b (s .terms) t (omega arith))
     (λ i h. term-written i _ _ _ (ok .terms-right i h .0)) in
     let rules = rules-bytes (ruleBytes b s) ruleBytesOf (countAt b 1) (stretch-length b (s .rules) r (omega arith)) (λ i h. refl) in
-    let memberships = memberships-bytes (membershipBytes b s) membershipBytesOf (countAt b 2) (stretch-length b (s .memberships) m (omega arith))
-    (λ i h. cc (sense-written (membershipRecord (membershipBytes b s) i .sense) (ok .memberships-right i h .1 .1 .0))) in
+    let memberships = memberships-written (membershipBytes b s) (countAt b 2) (bytes-stretch b (s .memberships) (s .links) bytes)
+    (stretch-length b (s .memberships) m (omega arith)) in
     let links = links-bytes (linkBytes b s) linkBytesOf (countAt b 3) (stretch-length b (s .links) l (omega arith)) (λ i h. refl) in
     let pairs = pairs-bytes (pairBytes b s) pairBytesOf (countOfPairs b) (stretch-length b (s .pairs) p (omega arith)) (λ i h. refl) in
     let contents = contents-written b bytes ok in
@@ -114,6 +128,7 @@ bytesOf-bookOf b bytes accepts =
       stretch-next b (s .pairs) p,
     )
 
--- so the reading, with the edition, determines the bytes
-pub reading-inj : (b c : List ℕ) → Bytes b → Bytes c → Accepts b → Accepts c → edition b ≡ edition c → bookOf b ≡ bookOf c → b ≡ c
-reading-inj b c p q h k e f = sym (bytesOf-bookOf b p h) ∙ ap₂ bytesOf e f ∙ bytesOf-bookOf c q k
+-- so the reading, with the edition and the senses' bytes, determines the bytes
+pub reading-inj : (b c : List ℕ) → Bytes b → Bytes c → Accepts b → Accepts c → edition b ≡ edition c
+    → sensesIn (membershipBytes b (sectionsOf b)) ≡ sensesIn (membershipBytes c (sectionsOf c)) → bookOf b ≡ bookOf c → b ≡ c
+reading-inj b c p q h k e s f = sym (bytesOf-bookOf b p h) ∙ (cc) ∙ bytesOf-bookOf c q k

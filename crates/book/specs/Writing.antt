@@ -1,13 +1,19 @@
--- From an abstract book back to its bytes: document 01, "The book", and document 02, P1, read the other way. The edition is no part of an abstract
--- book: a book without pairs may be of either.
+-- From an abstract book back to its bytes: document 01, "The book", and document 02, P1 and P2, read the other way. The edition is no part of an
+-- abstract book: one without pairs may be of either. Nor is it whether a claim is written for an individual or for a set, which the sense's byte says: a
+-- claim about one individual may be either.
 -- Assumes nothing.
-use mathlib.Core.List.{List, [], _∷_, _++_, flatMap}
+use mathlib.Core.Logic.{ite}
+use mathlib.Core.List.{List, [], _∷_, _++_, flatMap, zipWith}
 use Prim.Native.Nat.{ℕ, _+_, _*_}
+use native.Mathlib.Decide.{decLt}
 use lib.ListN.{length, getD}
+use Rattle.chain.specs.Lists.{table}
 use Rattle.encoding.specs.Words.{wordBytes}
+use Rattle.encoding.specs.Bits.{byteOf}
 use Rattle.semantics.specs.Terms.{Term, name, not, and, or, some, all, top, bottom}
 use Rattle.semantics.specs.Roles.{RolePair}
-use Rattle.semantics.specs.Books.{Rule, Sense, at-least, at-most, MembershipClaim, LinkClaim, Book}
+use Rattle.semantics.specs.Books.{Rule, MembershipClaim, LinkClaim, Book}
+use Rattle.claims.specs.Claims.{claimCount, membershipRecord}
 use Rattle.layout.specs.Layout.{byEdition, head}
 
 -- ---- the records of the bodies
@@ -27,14 +33,17 @@ termBytesOf bottom = 7 ∷ 0 ∷ 0 ∷ []
 abbrev pub ruleBytesOf : Rule → List ℕ
 ruleBytesOf q = q .left ∷ q .right ∷ []
 
--- "sense 0 "at least" or 1 "at most""
-abbrev pub senseByte : Sense → ℕ
-senseByte at-least = 0
-senseByte at-most = 1
+-- whom a claim of this sense names: the individual, or "bit i set for individual i"
+abbrev pub firstByte : (sense : ℕ) → List ℕ → ℕ
+firstByte k js = ite {C = ℕ} (decLt k 2) (getD js 0 0) (byteOf js)
 
 -- "membership claims (4: individual 0–7, term, sense .., grade)"
-abbrev pub membershipBytesOf : MembershipClaim → List ℕ
-membershipBytesOf q = getD (q .members) 0 0 ∷ q .term ∷ senseByte (q .sense) ∷ q .grade ∷ []
+abbrev pub membershipBytesOf : (sense : ℕ) → MembershipClaim → List ℕ
+membershipBytesOf k q = firstByte k (q .members) ∷ q .term ∷ k ∷ q .grade ∷ []
+
+-- the senses of a section's claims
+abbrev pub sensesIn : List ℕ → List ℕ
+sensesIn s = table (λ i. membershipRecord s i .sense) (claimCount s)
 
 -- "link claims (4: role, from, to, grade ..)"
 abbrev pub linkBytesOf : LinkClaim → List ℕ
@@ -62,12 +71,12 @@ contentsOf e B =
     e ∷ B .grading .steps
     ∷ flatMap wordBytes (entriesOf e (length (B .grading .terms)) (length (B .rules)) (length (B .memberships)) (length (B .links)) (length (B .pairs)))
 
--- the contents, and then the bodies
-unfoldable pub bytesOf : (edition : ℕ) → Book → List ℕ
-bytesOf e B =
+-- the contents, and then the bodies; the membership claims in these senses
+unfoldable pub bytesOf : (edition : ℕ) (senses : List ℕ) → Book → List ℕ
+bytesOf e senses B =
     contentsOf e B
     ++ flatMap termBytesOf (B .grading .terms)
     ++ flatMap ruleBytesOf (B .rules)
-    ++ flatMap membershipBytesOf (B .memberships)
+    ++ flatMap (λ r. r) (zipWith membershipBytesOf senses (B .memberships))
     ++ flatMap linkBytesOf (B .links)
     ++ flatMap pairBytesOf (B .pairs)

@@ -1,4 +1,5 @@
--- Accepted books that read alike are decided alike: the same answer, the same marks and the same placement.
+-- Accepted books with the same candidates, survivors, outcome and placement are decided alike: the same answer, the same marks and the same
+-- placement. Books that read alike are such, and so are a book and the one with its sets written out.
 -- Assumes nothing.
 use mathlib.Core.Path.{_≡_, refl, sym, ap, _∙_}
 use mathlib.Core.Option.{Option, none, some}
@@ -9,20 +10,45 @@ use lib.ListN.{length}
 use Rattle.chain.specs.Questions.{Question, ask, firstNo}
 use Rattle.chain.proofs.Questions.{first-none-append}
 use Rattle.semantics.specs.Books.{Book}
+use Rattle.semantics.proofs.Claims.{written}
 use Rattle.types.specs.Candidates.{candidates}
 use Rattle.book.specs.Reading.{bookOf}
 use Rattle.book.specs.Opening.{bookQuestions, Accepts}
 use Rattle.counter.specs.Counting.{fewCandidates?}
-use Rattle.placement.specs.Outcome.{placement}
-use Rattle.outcomes.specs.Decided.{decision, markedIn, placedIn}
+use Rattle.placement.specs.Outcome.{survivorsOf, placement, outcome}
+use Rattle.placement.proofs.Singles.{written-placement, written-outcome}
+use Rattle.outcomes.specs.Decided.{placedIn}
 use Rattle.decider.specs.Deciding.{decideQuestions, decided, decisionOf, marksBy, marksAfter, placementBy, placementAfter}
 
-module _ (b c : List ℕ) (ok : Accepts b) (also : Accepts c) (same : bookOf b ≡ bookOf c) where
+pub record SameDecision (B C : Book) : Type 0 where
+  pub candidates-same : candidates (B .grading) ≡ candidates (C .grading)
+  pub survivors-same : survivorsOf B ≡ survivorsOf C
+  pub outcome-same : outcome B ≡ outcome C
+  pub placement-same : placement B ≡ placement C
+
+pub same-book : (B C : Book) → B ≡ C → SameDecision B C
+same-book B C e = record {
+  candidates-same = ap (λ (A : Book). candidates (A .grading)) e;
+  survivors-same = ap survivorsOf e;
+  outcome-same = ap outcome e;
+  placement-same = ap placement e;
+}
+
+-- and so are a book and the one with its claims written out
+pub same-written : (B C : Book) → C ≡ written B → SameDecision B C
+same-written B C e = record {
+  candidates-same = ap (λ (A : Book). candidates (A .grading)) (sym e);
+  survivors-same = ap survivorsOf (sym e);
+  outcome-same = sym (ap outcome e ∙ written-outcome B);
+  placement-same = sym (ap placement e ∙ written-placement B);
+}
+
+module _ (b c : List ℕ) (ok : Accepts b) (also : Accepts c) (same : SameDecision (bookOf b) (bookOf c)) where
   questions-alike : (m p : ℕ) → firstNo (decideQuestions b m p) ≡ firstNo (decideQuestions c m p)
   unfolding Accepts fewCandidates?
   questions-alike m p =
       first-none-append (bookQuestions b) (then (candidates (bookOf b .grading))) ok
-      ∙ ap (λ (B : Book). firstNo (then (candidates (B .grading)))) same
+      ∙ ap (λ (k : ℕ). firstNo (then k)) (same .candidates-same)
       ∙ sym (first-none-append (bookQuestions c) (then (candidates (bookOf c .grading))) also)
     where
       then : ℕ → List Question
@@ -33,7 +59,7 @@ module _ (b c : List ℕ) (ok : Accepts b) (also : Accepts c) (same : bookOf b �
   decided-alike m p = ap (decided b) (questions-alike m p) ∙ go (firstNo (decideQuestions c m p))
     where
       go : (o : Option ℕ) → decided b o ≡ decided c o
-      go none = ap decision same
+      go none = rw (same .outcome-same, same .survivors-same)
       go (some n) = refl
 
   pub marks-alike : (p : ℕ) (marks : List ℕ) → marksAfter b p marks ≡ marksAfter c p marks
@@ -41,7 +67,7 @@ module _ (b c : List ℕ) (ok : Accepts b) (also : Accepts c) (same : bookOf b �
   marks-alike p marks = ap (λ (o : Option ℕ). marksBy b o marks) (questions-alike (length marks) p) ∙ go (firstNo (decideQuestions c (length marks) p))
     where
       go : (o : Option ℕ) → marksBy b o marks ≡ marksBy c o marks
-      go none = ap (λ (B : Book). markedIn B marks) same
+      go none = rw (same .survivors-same, same .candidates-same)
       go (some n) = refl
 
   pub placement-alike : (m : ℕ) (buffer : List ℕ) → placementAfter b m buffer ≡ placementAfter c m buffer
@@ -49,5 +75,5 @@ module _ (b c : List ℕ) (ok : Accepts b) (also : Accepts c) (same : bookOf b �
   placement-alike m buffer = ap (λ (o : Option ℕ). placementBy b o buffer) (questions-alike m (length buffer)) ∙ go (firstNo (decideQuestions c m (length buffer)))
     where
       go : (o : Option ℕ) → placementBy b o buffer ≡ placementBy c o buffer
-      go none = ap (λ (B : Book). placedIn (placement B) buffer) same
+      go none = ap (λ (o : Option (List ℕ)). placedIn o buffer) (same .placement-same)
       go (some n) = refl

@@ -1,7 +1,7 @@
 -- Laws of the first list in dictionary order: what holds of it entry by entry, that there is only one, and that the search finds it.
 -- Assumes nothing.
 use mathlib.Core.Path.{_≡_, refl, sym, ap, ap₂, subst, _∙_}
-use mathlib.Core.Logic.{_⊎_, inl, inr, ⊎-elim}
+use mathlib.Core.Logic.{_↔_, _⊎_, inl, inr, ⊎-elim}
 use mathlib.Core.Option.{Option, none, some}
 use mathlib.Core.List.{List, [], _∷_}
 use Prim.Native.Nat.{ℕ, zero, suc, _≤_, _<_}
@@ -127,6 +127,11 @@ before-antisymm (x ∷ p) (y ∷ q) l (inl h) (inl g) = absurd (omega arith)
 before-antisymm (x ∷ p) (y ∷ q) l (inl h) (inr g) = absurd (omega (arith, g .0))
 before-antisymm (x ∷ p) (y ∷ q) l (inr h) (inl g) = absurd (omega (arith, h .0))
 before-antisymm (x ∷ p) (y ∷ q) l (inr h) (inr g) = ap₂ {C = List ℕ} _∷_ (h .0) (before-antisymm p q (suc-inj l) (h .1) (g .1))
+
+-- by another test that asks the same
+pub finds-iff : (xs : List ℕ) (k : ℕ) (P Q : List ℕ → Type 0) → ((p : List ℕ) → P p ↔ Q p) → (o : Option (List ℕ)) → Finds xs k P o → Finds xs k Q o
+finds-iff xs k P Q same none f = λ p d q. f p d (same p .1 q)
+finds-iff xs k P Q same (some p) f = record { drawn = f .drawn; passes = same p .0 (f .passes); foremost = λ q d h. f .foremost q d (same q .1 h) }
 
 pub finds-same : (xs : List ℕ) (k : ℕ) (P : List ℕ → Type 0) (o u : Option (List ℕ)) → Finds xs k P o → Finds xs k P u → o ≡ u
 finds-same xs k P none none f g = refl

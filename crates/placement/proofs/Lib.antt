@@ -1,3 +1,4 @@
 pub mod Dictionary
 pub mod Outcome
 pub mod Pairs
+pub mod Singles
