@@ -17,7 +17,7 @@ use Rattle.types.specs.Candidates.{bearer, opens?, places, homeAs, home, placeN
 use Rattle.sections.specs.Terms.{termsRight?, termsOf}
 use Rattle.claims.specs.Rules.{rulesRight?, rulesOf}
 use Rattle.claims.specs.Pairs.{pairsRight?, pairsOf}
-use Rattle.claims.specs.Claims.{membershipsRight?, linksRight?, membershipsOf, linksOf}
+use Rattle.claims.specs.Claims.{membershipsRight?, linksRight?, membersOf, membershipsOf, linksOf}
 use Rattle.grades.specs.Rows.{rowOf}
 use Rattle.layout.specs.Layout.{byEdition, sectionsOf, lengthRight?, editionRight?, stepsRight?, countsRight?, laidOut?}
 use Rattle.book.specs.Reading.{bookOf}
@@ -44,7 +44,7 @@ use Rattle.demands.specs.Readings.{printed}
 pub printed-book : printoutOf (printed 2) ≡ bytes "outcome 1 survivors 1\ntype 1 grades 1 1\nindividual 0 type 1\n"
 unfolding printoutOf decidedLines outcomeLine typeLines typeLine individualLines individualLine spaced labelled newline decimal spelled bytes flatMap decLt
     firstNo says lengthRight? editionRight? stepsRight? countsRight? laidOut? termsRight? rulesRight? membershipsRight? linksRight? pairsRight? fewCandidates?
-    bookOf byEdition sectionsOf wordAt termsOf rulesOf pairsOf membershipsOf linksOf table outcome placement placementAmong tryEach holds? survivors
+    bookOf byEdition sectionsOf wordAt termsOf rulesOf pairsOf membershipsOf membersOf linksOf table outcome placement placementAmong tryEach holds? survivors
     settle fits? each? keep from candidates places gradeIn value deep placeNumber home homeAs bearer first opens? rank digit linkBetween individuals highest rowOf
 printed-book = refl
 

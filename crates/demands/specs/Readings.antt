@@ -19,7 +19,7 @@ use Rattle.semantics.specs.Links.{linkBetween}
 use Rattle.sections.specs.Terms.{termsRight?, termsOf}
 use Rattle.claims.specs.Rules.{rulesRight?, rulesOf}
 use Rattle.claims.specs.Pairs.{pairsRight?, pairsOf}
-use Rattle.claims.specs.Claims.{membershipsRight?, linksRight?, membershipsOf, linksOf}
+use Rattle.claims.specs.Claims.{membershipsRight?, linksRight?, membersOf, membershipsOf, linksOf}
 use Rattle.encoding.specs.Words.{wordAt}
 use Rattle.layout.specs.Layout.{byEdition, sectionsOf, lengthRight?, editionRight?, stepsRight?, countsRight?, laidOut?}
 use Rattle.book.specs.Reading.{bookOf}
@@ -149,7 +149,7 @@ computed (book-reading b o k ms ps) (asked, count, answer, marks-are, placement-
 
 computing : Each Computes readings
 unfolding linkAnswer firstNo says lengthRight? editionRight? stepsRight? countsRight? laidOut? termsRight? rulesRight? membershipsRight? linksRight? pairsRight? fewCandidates?
-    bookOf byEdition sectionsOf wordAt termsOf rulesOf pairsOf membershipsOf linksOf table outcome placement placementAmong individuals highest tryEach holds? survivors
+    bookOf byEdition sectionsOf wordAt termsOf rulesOf pairsOf membershipsOf membersOf linksOf table outcome placement placementAmong individuals highest tryEach holds? survivors
     settle fits? from keep each? any? marksOf candidates places linkBetween gradeIn value deep placeNumber home homeAs bearer first opens? rank digit flatMap
 computing = (
   refl,
@@ -217,7 +217,7 @@ rankedReadings =
 
 rankedComputing : Each Computes rankedReadings
 unfolding firstNo says lengthRight? editionRight? stepsRight? countsRight? laidOut? termsRight? rulesRight? membershipsRight? linksRight? pairsRight? fewCandidates?
-    bookOf byEdition sectionsOf wordAt termsOf rulesOf pairsOf membershipsOf linksOf table outcome placement placementAmong individuals highest tryEach holds? survivors
+    bookOf byEdition sectionsOf wordAt termsOf rulesOf pairsOf membershipsOf membersOf linksOf table outcome placement placementAmong individuals highest tryEach holds? survivors
     settle fits? from keep each? any? marksOf candidates places linkBetween gradeIn value deep placeNumber home homeAs bearer first opens? rank digit flatMap
     hierarchy rolePairs upward?
 rankedComputing = (
@@ -236,3 +236,35 @@ rankedComputing = (
 
 pub readings-of-pairs : Each Reads rankedReadings
 readings-of-pairs = mem-each {P = Reads} rankedReadings (λ q m. computed q (each-mem Computes rankedReadings rankedComputing q m))
+
+-- ---- readings of document 02, P2, of our own
+
+-- N 1, a name A: two membership claims about it, of these bytes but for the term
+abbrev batch : (first sense grade first′ sense′ grade′ : ℕ) → List ℕ
+batch x k g x′ k′ g′ =
+    0x01 ∷ 0x01 ∷ 0x00 ∷ 0x12 ∷ 0x00 ∷ 0x01 ∷ 0x00 ∷ 0x15 ∷ 0x00 ∷ 0x00 ∷ 0x00 ∷ 0x15 ∷ 0x00 ∷ 0x02 ∷ 0x00 ∷ 0x1d ∷ 0x00 ∷ 0x00
+    ∷ 0x00 ∷ 0x00 ∷ 0x00
+    ∷ x ∷ 0x00 ∷ k ∷ g ∷ x′ ∷ 0x00 ∷ k′ ∷ g′ ∷ []
+
+abbrev pub setReadings : List Reading
+setReadings =
+    -- A at least 1 for {0, 2}, and at most 0 for 1: the individuals sit at 1, 0, 1
+    book-reading (batch 0x05 2 1 0x01 1 0) 1 2 (1 ∷ 1 ∷ []) (0 ∷ 1 ∷ 0 ∷ 0 ∷ 0 ∷ 1 ∷ [])
+    -- at most 0 for 2: one member is enough
+    ∷ book-reading (batch 0x05 2 1 0x02 1 0) 2 2 (1 ∷ 1 ∷ []) []
+    -- at most 0 for {0, 1} and at least 1 for {2}
+    ∷ book-reading (batch 0x03 3 0 0x04 2 1) 1 2 (1 ∷ 1 ∷ []) (0 ∷ 0 ∷ 0 ∷ 0 ∷ 0 ∷ 1 ∷ [])
+    -- empty sets claim nothing, not even at most 0 and at least 1, and there is no individual
+    ∷ book-reading (batch 0x00 3 0 0x00 2 1) 1 2 (1 ∷ 1 ∷ []) [] ∷ []
+
+setComputing : Each Computes setReadings
+unfolding firstNo says lengthRight? editionRight? stepsRight? countsRight? laidOut? termsRight? rulesRight? membershipsRight? linksRight? pairsRight? fewCandidates?
+    bookOf byEdition sectionsOf wordAt termsOf rulesOf pairsOf membershipsOf membersOf linksOf table outcome placement placementAmong individuals highest tryEach holds? survivors
+    settle fits? from keep each? any? marksOf candidates places linkBetween gradeIn value deep placeNumber home homeAs bearer first opens? rank digit flatMap
+setComputing = (
+  (refl, refl, refl, λ _. refl, λ _. refl),
+  ((refl, refl, refl, λ _. refl, λ _. refl), ((refl, refl, refl, λ _. refl, λ _. refl), ((refl, refl, refl, λ _. refl, λ _. refl), tt))),
+)
+
+pub readings-of-sets : Each Reads setReadings
+readings-of-sets = mem-each {P = Reads} setReadings (λ q m. computed q (each-mem Computes setReadings setComputing q m))

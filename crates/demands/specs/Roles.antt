@@ -170,13 +170,13 @@ module _ (b c : List ℕ) (ok : Accepts b) (also : Accepts c) (first : edition b
       (Pairs.no-pairs c also second none-there)
 
   pub unpaired-decided-alike : (m p : ℕ) → decisionOf b m p ≡ decisionOf c m p
-  unpaired-decided-alike = Alike.decided-alike b c ok also one-meaning
+  unpaired-decided-alike = Alike.decided-alike b c ok also (Alike.same-book (bookOf b) (bookOf c) one-meaning)
 
   pub unpaired-marked-alike : (p : ℕ) (marks : List ℕ) → marksAfter b p marks ≡ marksAfter c p marks
-  unpaired-marked-alike = Alike.marks-alike b c ok also one-meaning
+  unpaired-marked-alike = Alike.marks-alike b c ok also (Alike.same-book (bookOf b) (bookOf c) one-meaning)
 
   pub unpaired-placed-alike : (m : ℕ) (buffer : List ℕ) → placementAfter b m buffer ≡ placementAfter c m buffer
-  unpaired-placed-alike = Alike.placement-alike b c ok also one-meaning
+  unpaired-placed-alike = Alike.placement-alike b c ok also (Alike.same-book (bookOf b) (bookOf c) one-meaning)
 
 -- a book with more pairs has no better outcome, and lists no other types
 module _ (b c marks buffer others other : List ℕ) (d : Decidable b (length marks) (length buffer)) (e : Decidable c (length others) (length other))
