@@ -1,17 +1,15 @@
--- Laws of the filter: what a membership claim asks by the numbers that code reads, and how the rows and the table fill.
+-- Laws of the filter: whom an unmet membership claim strikes, by what code reads, and how the rows and the table fill.
 -- Assumes nothing.
-use mathlib.Core.Path.{_≡_, refl, sym, subst, _∙_}
-use mathlib.Core.Bool.{Bool}
-use mathlib.Core.Logic.{_↔_, ⊎-elim}
-use mathlib.Core.List.{List}
+use mathlib.Core.Path.{_≡_, refl, sym, ap, ap₂, subst, _∙_}
+use mathlib.Core.Logic.{_↔_, inl, inr, ⊎-elim}
+use mathlib.Core.List.{List, [], _∷_}
 use Prim.Native.Nat.{ℕ, _+_, _*_, _≤_, _<_}
 use native.Mathlib.Numerals.{add-one}
-use native.Mathlib.Decide.{ℕ-discrete}
+use native.Mathlib.Decide.{ℕ-discrete, decLt}
 use native.Mathlib.Omega.{arith}
-use lib.ListN.{length, getD, set, take}
+use lib.ListN.{length, getD, set, take, length-set, getD-replicate, List·getD-eq-default}
+use borrow.Author.Count.{below-more}
 use lib.Seq.{getD-set-same, getD-set-other}
-use Rattle.chain.specs.Decisions.{Tells}
-use Rattle.chain.proofs.Decisions.{tells-map}
 use Rattle.chain.proofs.Search.{below-cases}
 use Rattle.chain.proofs.Blocks.{block-kept, each-block-more}
 use Rattle.semantics.specs.Terms.{Ordered}
@@ -28,21 +26,80 @@ use Rattle.grades.specs.Rows.{HasGrades, entry}
 use Rattle.elimination.specs.Marks.{Marked}
 use Rattle.network.specs.Rows.{rowAt}
 use Rattle.domains.specs.Tables.{Allowed}
-use Rattle.filter.specs.Filter.{Task, ClaimsBelow, MembershipBy, MembershipsBy, Admits, gradesOf, Column, Entered, Filtered}
+use Rattle.filter.specs.Filter.{Task, ClaimsBelow, MembershipBy, MembershipsBy, StruckOne, Struck, Admits, gradesOf, Column, Entered, Filtered}
 
 -- ---- membership claims
 
--- a claim that mentions individual j, by what code reads: its four bytes, and the number of its term
-pub membership-told : (r : Bool) (ms : List ℕ) (j : ℕ) (f : ℕ → ℕ) (i : ℕ) (q : MembershipRecord) (term : ℕ) → q ≡ membershipRecord ms i
-    → Mentions (membershipOf q) j → term ≡ q .term → Tells r (Claimed (membershipOf q .sense) (membershipOf q .grade) (f term)) → Tells r (MembershipBy ms j f i)
-membership-told r ms j f i q term e m t h =
-    subst (λ (p : MembershipRecord). Tells r (Asks p)) e (tells-map r (λ c _. subst Met t c) (λ g. subst Met (sym t) (g m)) h)
-  where
-    Met : ℕ → Type 0
-    Met x = Claimed (membershipOf q .sense) (membershipOf q .grade) (f x)
+-- ---- individuals that a claim mentions are struck
 
-    Asks : MembershipRecord → Type 0
-    Asks p = Mentions (membershipOf p) j → Claimed (membershipOf p .sense) (membershipOf p .grade) (f (p .term))
+-- a 0 that is put there, or past the end, is read
+zero-put : (xs : List ℕ) (n : ℕ) → getD (set xs n 0) n 0 ≡ 0
+zero-put xs n = go (decLt n (length xs))
+  where
+    go : Dec (n < length xs) → getD (set xs n 0) n 0 ≡ 0
+    go (yes l) = getD-set-same xs n 0 0 l
+    go (no m) = List·getD-eq-default (set xs n 0) 0 (rw length-set (omega arith))
+
+module _ {P : ℕ → Type 0} {old : List ℕ} where
+  -- none below n is as P says
+  pub struck-start : {n : ℕ} → ((j : ℕ) → P j → n ≤ j) → Struck P n old old
+  struck-start from = record { left = λ j l. (λ h. (h, λ m p. omega (arith, from j p)), λ h. h .0) }
+
+  pub struck-more : {n : ℕ} {now new : List ℕ} → Struck P n old now → StruckOne P n now new → Struck P (n + 1) old new
+  struck-more {n} {now} {new} w (inl (p, e)) = record { left = λ j l. go j l (ℕ-discrete j n) }
+    where
+      go : (j : ℕ) → j < 8 → Dec (j ≡ n) → (getD new j 0 ≡ 1) ↔ ((getD old j 0 ≡ 1) × (j < n + 1 → ¬ P j))
+      go j l (yes q) =
+          let gone : getD new j 0 ≡ 0 = ap₂ (λ (xs : List ℕ) (z : ℕ). getD xs z 0) e q ∙ zero-put now n in
+          (λ h. absurd (omega arith), λ h. absurd (h .1 (omega arith) (subst P (sym q) p)))
+      go j l (no m) =
+          let same : getD new j 0 ≡ getD now j 0 = ap (λ (xs : List ℕ). getD xs j 0) e ∙ getD-set-other now n j 0 0 m in (
+            λ h. let u = w .left j l .0 (sym same ∙ h) in (u .0, λ k. u .1 (omega arith)),
+            λ h. same ∙ w .left j l .1 (h .0, λ k. h .1 (omega arith)),
+          )
+  struck-more {n} {now} {new} w (inr (m, e)) = record {
+    left = λ j l.
+        let same : getD new j 0 ≡ getD now j 0 = ap (λ (xs : List ℕ). getD xs j 0) e in (
+          λ h. let u = w .left j l .0 (sym same ∙ h) in
+              (u .0, λ k p. ⊎-elim (λ q. m (subst P q p)) (λ g. u .1 g p) (below-cases n j (rw (← add-one n) k))),
+          λ h. same ∙ w .left j l .1 (h .0, λ k. h .1 (omega arith)),
+        );
+  }
+
+  pub struck-all : {n : ℕ} {new : List ℕ} → 8 ≤ n → Struck P n old new → Struck P 8 old new
+  struck-all h w = record { left = λ j l. (λ e. let u = w .left j l .0 e in (u .0, λ _. u .1 (omega arith)), λ e. w .left j l .1 (e .0, λ _. e .1 l)) }
+
+-- a claim, by what code reads: its four bytes, and the number of its term. Met, it strikes none; unmet, those that it mentions
+module _ (ms : List ℕ) (f : ℕ → ℕ) (i : ℕ) (q : MembershipRecord) (term : ℕ) (e : q ≡ membershipRecord ms i) (t : term ≡ q .term) where
+  abbrev Met : MembershipRecord → ℕ → Type 0
+  Met p x = Claimed (membershipOf p .sense) (membershipOf p .grade) (f x)
+
+  claim-met : Met q term ↔ Met (membershipRecord ms i) (membershipRecord ms i .term)
+  claim-met =
+      let z : term ≡ membershipRecord ms i .term = t ∙ ap (λ (p : MembershipRecord). p .term) e in (
+        λ h. subst (λ (p : MembershipRecord). Met p (membershipRecord ms i .term)) e (subst (Met q) z h),
+        λ h. subst (Met q) (sym z) (subst (λ (p : MembershipRecord). Met p (membershipRecord ms i .term)) (sym e) h),
+      )
+
+  pub met-strikes-none : Met q term → (j x : ℕ) → (x ≡ 1) ↔ ((x ≡ 1) × MembershipBy ms j f i)
+  met-strikes-none h j x = (λ o. (o, λ _. claim-met .0 h), λ o. o .0)
+
+  pub unmet-strikes : {old new : List ℕ} → ¬ Met q term → Struck (Mentions (membershipOf q)) 8 old new
+      → (j : ℕ) → j < 8 → (getD new j 0 ≡ 1) ↔ ((getD old j 0 ≡ 1) × MembershipBy ms j f i)
+  unmet-strikes n w j l = (
+    λ o. let u = w .left j l .0 o in (u .0, λ m. absurd (u .1 l (subst (λ (p : MembershipRecord). Mentions (membershipOf p) j) (sym e) m))),
+    λ o. w .left j l .1 (o .0, λ _ m. n (claim-met .1 (o .1 (subst (λ (p : MembershipRecord). Mentions (membershipOf p) j) e m)))),
+  )
+
+-- no claim has struck anyone, and one more has
+pub ones : (j : ℕ) → j < 8 → getD {A = ℕ} (1 ∷ 1 ∷ 1 ∷ 1 ∷ 1 ∷ 1 ∷ 1 ∷ 1 ∷ []) j 0 ≡ 1
+ones j l = getD-replicate 8 j 1 0 l
+
+pub fits-more : {A B : Type 0} {P : ℕ → Type 0} (i : ℕ) → A ↔ ((x : ℕ) → x < i → P x) → B ↔ (A × P i) → B ↔ ((x : ℕ) → x < i + 1 → P x)
+fits-more {A} {B} {P} i a b = (
+  λ h. let u = b .0 h in below-more P i (a .0 (u .0)) (u .1),
+  λ h. b .1 (a .1 (λ x l. h x (omega arith)), h i (omega arith)),
+)
 
 -- where they are about terms below n, they ask the same of grades that are the same there
 memberships-same : (ms : List ℕ) (n : ℕ) → ClaimsBelow ms n → (f g : ℕ → ℕ) → ((i : ℕ) → i < n → f i ≡ g i) → (j : ℕ) → MembershipsBy ms j f

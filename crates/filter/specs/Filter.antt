@@ -2,10 +2,10 @@
 -- which are made on the way, since a membership claim may be about a term of which those have no grade.
 -- Assumes nothing.
 use mathlib.Core.Path.{_≡_}
-use mathlib.Core.Logic.{_↔_}
+use mathlib.Core.Logic.{_↔_, _⊎_}
 use mathlib.Core.List.{List}
 use Prim.Native.Nat.{ℕ, _+_, _*_, _≤_, _<_}
-use lib.ListN.{getD, take}
+use lib.ListN.{getD, set, take}
 use Rattle.semantics.specs.Books.{Claimed, Mentions}
 use Rattle.types.specs.Candidates.{gradeIn}
 use Rattle.sections.specs.Terms.{termCount, termsOf, TermsRight}
@@ -41,6 +41,20 @@ MembershipBy ms j f i =
 -- they meet every membership claim that mentions j
 abbrev pub MembershipsBy : (ms : List ℕ) (j : ℕ) (f : ℕ → ℕ) → Type 0
 MembershipsBy ms j f = (i : ℕ) → i < claimCount ms → MembershipBy ms j f i
+
+-- ---- of eight individuals, those that are left have a 1
+
+-- individual n was struck, where it is as P says
+abbrev pub StruckOne : (P : ℕ → Type 0) (n : ℕ) (old new : List ℕ) → Type 0
+StruckOne P n old new = (P n × (new ≡ set old n 0)) ⊎ ((¬ P n) × (new ≡ old))
+
+-- those below n were, that are
+pub record Struck (P : ℕ → Type 0) (n : ℕ) (old new : List ℕ) : Type 0 where
+  pub left : (j : ℕ) → j < 8 → (getD new j 0 ≡ 1) ↔ ((getD old j 0 ≡ 1) × (j < n → ¬ P j))
+
+-- left are those whose claims the grades meet
+abbrev pub Fits : (ms : List ℕ) (f : ℕ → ℕ) (fits : List ℕ) → Type 0
+Fits ms f fits = (j : ℕ) → j < 8 → (getD fits j 0 ≡ 1) ↔ MembershipsBy ms j f
 
 -- and the row of slots meets every constraint from j to itself
 abbrev pub Admits : Logic → (ms net ends : List ℕ) (j : ℕ) (f : ℕ → ℕ) (row : List ℕ) → Type 0

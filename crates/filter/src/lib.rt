@@ -3,15 +3,18 @@ ghost use mathlib.Core.Path.{_≡_};
 ghost use mathlib.Core.Logic.{_↔_};
 ghost use Prim.Native.Nat.{ℕ, _*_, _<_, _≤_};
 ghost use lib.ListN.{length, getD};
-ghost use Rattle.chain.specs.Decisions.{Tells};
-ghost use Rattle.claims.specs.Claims.{claimCount, membershipAt};
+ghost use Rattle.semantics.specs.Books.{Mentions};
+ghost use Rattle.claims.specs.Claims.{claimCount, membershipOf, membershipAt};
 ghost use Rattle.slots.specs.Slots.{slotCount};
 ghost use Rattle.grades.specs.Rows.{entry};
-ghost use Rattle.network.specs.Network.{Wired};
+ghost use Rattle.network.specs.Constraints.{AllMet};
+ghost use Rattle.network.specs.Network.{between as betweenOf, Wired};
 ghost use Rattle.domains.specs.Consistent.{Problem};
-ghost use Rattle.filter.specs.Filter.{Task, ClaimsBelow, MembershipBy, MembershipsBy, Admits, Column, Entered, Filtered};
+ghost use Rattle.filter.specs.Filter.{Task, ClaimsBelow, MembershipBy, StruckOne, Struck, Fits, Column, Entered, Filtered};
+use claims::MembershipRecord;
 use claims::claimed;
 use claims::membership_at;
+use claims::mentioned_from;
 use claims::mentions;
 use encoding::wide;
 use grades::fill_row;
@@ -23,52 +26,71 @@ use network::row_at;
 
 // ---- by the grades of a candidate, and its row of slots
 
-// Do the grades of the row meet membership claim `i`, if this mentions individual `j`?
-fn membership_met(memberships: &[u8], i: usize, j: usize, row: &[u8]) -> bool
+// Strikes individual `j`, if the claim mentions it.
+fn strike_one(claim: MembershipRecord, j: usize, fits: &mut [u8; 8])
+    requires { ⌜ j < 8 ⌝ }
+    ensures { λ _. ⌜ StruckOne (Mentions (membershipOf claim)) j (now (fits .entry)) (now (fits .exit)) ⌝ }
+{
+    if mentions(claim, j) {
+        fits[j] = 0;
+    }
+}
+
+// Strikes the individuals that the claim mentions; `fits` has a 1 for each of eight that is left.
+fn strike(claim: MembershipRecord, fits: &mut [u8; 8])
+    ensures { λ _. ⌜ Struck (Mentions (membershipOf claim)) 8 (now (fits .entry)) (now (fits .exit)) ⌝ }
+{
+    let mut j = mentioned_from(claim);
+    while j < 8 {
+        strike_one(claim, j, fits);
+        j += 1;
+    }
+}
+
+// Strikes those that claim `i` mentions, if the grades of the row do not meet it.
+fn strike_unmet(memberships: &[u8], i: usize, row: &[u8], fits: &mut [u8; 8])
     requires { ⌜ (i < claimCount (now memberships)) × (membershipAt (now memberships) i .term < length (now row)) ⌝ }
-    ensures { λ r. ⌜ Tells r (MembershipBy (now (memberships .entry)) j (entry (now (row .entry))) i) ⌝ }
+    ensures { λ _. ⌜ ((j : ℕ) → j < 8 → (getD (now (fits .exit)) j 0 ≡ 1)
+        ↔ ((getD (now (fits .entry)) j 0 ≡ 1) × MembershipBy (now (memberships .entry)) j (entry (now (row .entry))) i)) ⌝ }
 {
     let claim = membership_at(memberships, i);
-    if !mentions(claim, j) {
-        return true;
+    if claimed(claim, row[wide(claim.term)]) {
+        return;
     }
-    claimed(claim, row[wide(claim.term)])
+    strike(claim, fits);
 }
 
-// Do they meet every one that mentions individual `j`?
-fn memberships_met(memberships: &[u8], j: usize, row: &[u8]) -> bool
+// For each of eight individuals 1 if the grades of the row meet every membership claim that mentions it. Each claim is looked at once, however many
+// individuals there are.
+fn fitting(memberships: &[u8], row: &[u8]) -> [u8; 8]
     requires { ⌜ ClaimsBelow (now memberships) (length (now row)) ⌝ }
-    ensures { λ r. ⌜ Tells r (MembershipsBy (now (memberships .entry)) j (entry (now (row .entry)))) ⌝ }
+    ensures { λ r. ⌜ Fits (now (memberships .entry)) (entry (now (row .entry))) r ⌝ }
 {
     let count = memberships.len() / 4;
+    let mut fits = [1u8; 8];
     let mut i = 0;
     while i < count {
-        if !membership_met(memberships, i, j, row) {
-            return false;
-        }
+        strike_unmet(memberships, i, row, &mut fits);
         i += 1;
     }
-    true
+    fits
 }
 
-// 1 if individual `j` may have a candidate of these grades and this row of slots, by the claims that mention it alone, else 0.
+// 1 if individual `j` may have a candidate of this row of slots, and `fits` says that it may by its membership claims, else 0.
 fn admitted(
     logic: Logic,
-    memberships: &[u8],
     net: &[u8],
     ends: &[u16],
     columns: usize,
     j: usize,
-    grades: &[u8],
+    fits: u8,
     row: &[u8],
 ) -> u8
-    requires { ⌜ ClaimsBelow (now memberships) (length (now grades)) ⌝ }
     requires { ⌜ Wired logic columns (now net) (now ends) ⌝ }
     requires { ⌜ (j < 8) × (columns ≤ length (now row)) ⌝ }
-    ensures { λ r. ⌜ (r ≡ 1) ↔ Admits logic (now (memberships .entry)) (now (net .entry)) (now (ends .entry)) j (entry (now (grades .entry)))
-        (now (row .entry)) ⌝ }
+    ensures { λ r. ⌜ (r ≡ 1) ↔ ((fits ≡ 1) × AllMet logic (betweenOf (now (net .entry)) (now (ends .entry)) j j) (now (row .entry)) (now (row .entry))) ⌝ }
 {
-    if !memberships_met(memberships, j, grades) {
+    if fits != 1 {
         return 0;
     }
     if !all_met(logic, between(net, ends, j, j), row, row, columns) {
@@ -98,9 +120,10 @@ fn allow_row(
     ensures { λ _. ⌜ Column logic (now (memberships .entry)) (now (net .entry)) (now (ends .entry)) (entry (now (grades .entry))) (now (row .entry))
         individuals c (now (table .entry)) (now (table .exit)) ⌝ }
 {
+    let fits = fitting(memberships, grades);
     let mut j = 0;
     while j < individuals {
-        let b = admitted(logic, memberships, net, ends, columns, j, grades, row);
+        let b = admitted(logic, net, ends, columns, j, fits[j], row);
         table[16384 * j + c] = b;
         j += 1;
     }
