@@ -26,6 +26,7 @@ fn bodies(mut total: Tally) -> Tally {
     total = close(total, b"terms", cases::terms());
     total = close(total, b"rules", cases::rules());
     total = close(total, b"memberships", cases::memberships());
+    total = close(total, b"sets", cases::sets());
     total = close(total, b"links", cases::links());
     total = close(total, b"pairs", cases::pairs());
     total = close(total, b"candidates", cases::candidates());

@@ -33,6 +33,8 @@ pub enum Recipe {
     RankedSample,
     Pairs,
     RankedFaults,
+    Set,
+    RankedSet,
 }
 
 // How many numbers of a row say what the book is. The expected answer follows: a number, and for 0 the candidates.
@@ -54,6 +56,8 @@ fn columns(recipe: Recipe) -> usize
         Recipe::RankedSample => 3,
         Recipe::Pairs => 4,
         Recipe::RankedFaults => 2,
+        Recipe::Set => 6,
+        Recipe::RankedSet => 6,
     }
 }
 
@@ -181,6 +185,41 @@ fn pairs(b: &mut [u8], lower: u8, upper: u8, next_lower: u8, next_upper: u8) -> 
     books::pair(b, at, next_lower, next_upper)
 }
 
+// Two tops, a rule from 0, a membership claim, the membership claim 0 0 0 0, a link claim of a role. N is 2.
+fn set_claim(
+    b: &mut [u8],
+    right: u8,
+    members: u8,
+    term: u8,
+    sense: u8,
+    grade: u8,
+    role: u8,
+) -> usize {
+    let mut at = books::head(b, 2, 2, 1, 2, 1);
+    at = books::terms(b, at, 2, 6, 0, 0);
+    at = books::pair(b, at, 0, right);
+    at = books::claim(b, at, members, term, sense, grade);
+    at = books::claim(b, at, 0, 0, 0, 0);
+    books::claim(b, at, role, 0, 0, 0)
+}
+
+// Edition 2: two tops, a membership claim, a link claim of a role, a pair with 0 below. N is 2.
+fn ranked_set_claim(
+    b: &mut [u8],
+    members: u8,
+    term: u8,
+    sense: u8,
+    grade: u8,
+    role: u8,
+    upper: u8,
+) -> usize {
+    let mut at = books::ranked_head(b, 2, 2, 0, 1, 1, 1);
+    at = books::terms(b, at, 2, 6, 0, 0);
+    at = books::claim(b, at, members, term, sense, grade);
+    at = books::claim(b, at, role, 0, 0, 0);
+    books::pair(b, at, 0, upper)
+}
+
 // Writes the book and answers its length.
 fn make(b: &mut [u8], recipe: Recipe, r: Row) -> usize {
     let v = small(r, 0);
@@ -203,6 +242,8 @@ fn make(b: &mut [u8], recipe: Recipe, r: Row) -> usize {
         Recipe::RankedSample => ranked_sample(b, v, w, cell(r, 2)),
         Recipe::Pairs => pairs(b, v, w, x, y),
         Recipe::RankedFaults => faults::make_ranked(b, v, w),
+        Recipe::Set => set_claim(b, v, w, x, y, z, small(r, 5)),
+        Recipe::RankedSet => ranked_set_claim(b, v, w, x, y, z, small(r, 5)),
     }
 }
 

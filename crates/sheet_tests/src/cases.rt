@@ -260,6 +260,187 @@ pub fn pairs() -> Tally {
     counted_roles(ranked_verdicts(begin()))
 }
 
+// A book of N 4 with names 0 and 1 and six claims: name 0 at least 2 for 0, 3 and 7; name 1 at most 3 for 1 and 6; name 0 at least 4 for none; of
+// individual 2, name 0 at most 3; name 1 at most 0 for none; name 1 at least 1 for all eight. Element 0 breaks none of them.
+fn broken_sets(t: Tally) -> Tally {
+    run(
+        t,
+        Recipe::Members,
+        b"
+        01 04  00 12 00 02  00 18 00 00  00 18 00 06  00 30 00 00
+        00 00 00 00 01 00  89 00 02 02  42 01 03 03  00 00 02 04  02 00 01 03  00 01 03 00  FF 01 02 01
+        ",
+        b"01 04  02 02 00 08  00 0C 00 10 00 10",
+        b"",
+        b"
+        2 1 0 0  0 0 0 0 0 0 0 0 -> 0 0;  3 3 0 0  0 0 0 0 0 0 0 0 -> 0 0;  0 0 3 3  1 1 1 1 1 1 1 1 -> 0 0
+        2 1 1 1  1 0 0 0 0 0 0 0 -> 2 0;  2 1 1 1  0 0 0 1 0 0 0 0 -> 2 0;  2 1 1 1  0 0 0 0 0 0 0 1 -> 2 0
+        2 1 1 1  1 0 0 1 0 0 0 1 -> 2 0;  2 1 1 1  0 1 1 0 1 1 1 0 -> 0 0
+        2 1 2 4  0 1 0 0 0 0 0 0 -> 2 1;  2 1 2 4  0 0 0 0 0 0 1 0 -> 2 1;  2 1 2 4  0 1 0 0 0 0 1 0 -> 2 1;  2 1 2 4  1 0 1 1 1 1 0 1 -> 0 0
+        2 1 4 1  0 0 1 0 0 0 0 0 -> 2 3;  2 1 4 1  1 1 0 1 1 1 1 1 -> 0 0
+        2 1 2 0  1 0 0 0 0 0 0 0 -> 2 5;  2 1 2 0  0 0 0 0 1 0 0 0 -> 2 5;  2 1 2 0  0 0 0 0 0 0 0 1 -> 2 5;  2 1 2 0  1 1 1 1 1 1 1 1 -> 2 5
+        2 1 1 4  0 1 0 0 0 0 0 1 -> 2 0;  2 1 1 4  0 1 0 0 1 1 0 0 -> 2 1;  2 1 4 0  0 0 1 0 0 0 0 0 -> 2 3;  2 1 4 0  0 0 0 0 0 1 0 0 -> 2 5
+        2 1 0 0  0 0 0 0 0 0 0 1 -> 2 0;  2 1 0 0  0 0 1 0 0 0 0 0 -> 2 5;  0 0 0 0  0 0 0 0 0 0 0 0 -> 2 0
+        ",
+    )
+}
+
+// Sets beside what else can be broken. A book of N 4: name 0 not greater than name 1; name 0 at least 2 for 0 and 1, name 1 at most 3 for 1; the
+// link of 0 to 1 at least 2. Then one of edition 2, N 2, with the same rule, and r0 under r1: name 0 at least 2 for none, at least 1 for 0, which r0
+// links to itself at least 1.
+fn sets_in_order(mut t: Tally) -> Tally {
+    t = run(
+        t,
+        Recipe::Entries,
+        b"
+        01 04  00 12 00 02  00 18 00 01  00 1A 00 02  00 22 00 01
+        00 00 00 00 01 00  00 01  03 00 02 02  02 01 03 03  00 00 01 02
+        ",
+        b"01 04  02 02 01 02  00 0C 00 10 00 14",
+        b"",
+        b"
+        2 2 3 3  0 2 0 0  0 1 -> 0 0 0;  2 4 3 3  0 2 0 0  0 1 -> 0 0 0;  2 4 3 3  0 0 0 2  1 1 -> 0 0 0
+        1 3 2 3  0 2 0 0  0 1 -> 2 0 0;  2 3 1 3  0 2 0 0  0 1 -> 2 0 0;  1 3 1 3  0 2 0 0  0 1 -> 2 0 0;  2 3 1 3  0 0 0 0  0 0 -> 3 0 0
+        2 3 2 4  0 2 0 0  0 1 -> 2 1 0;  2 3 2 4  0 0 2 0  1 0 -> 0 0 0;  2 3 1 4  0 2 0 0  0 1 -> 2 0 0
+        1 0 2 3  0 2 0 0  0 1 -> 1 0 0;  2 3 1 0  0 2 0 0  0 1 -> 1 0 1;  2 3 1 4  0 0 0 0  0 1 -> 2 0 0
+        2 3 2 4  0 0 0 0  0 1 -> 2 1 0;  2 3 2 3  0 1 0 0  0 1 -> 3 0 0
+        ",
+    );
+    run(
+        t,
+        Recipe::Ranked,
+        b"
+        02 02  00 16 00 02  00 1C 00 01  00 1E 00 02  00 26 00 01  00 2A 00 01
+        00 00 00 00 01 00  00 01  00 00 02 02  01 00 02 01  00 00 00 01  00 01
+        ",
+        b"01 02  02 02 02 01  00 0C 00 10 00 18",
+        b"",
+        b"
+        1 1 0 0  1 0 2 0  1 0 2 0 -> 0 0 0 0;  0 0 1 1  1 0 2 0  1 0 2 0 -> 2 1 0 0;  0 0 1 1  0 0 2 0  1 0 2 0 -> 2 1 0 0
+        0 0 1 1  1 0 2 0  1 0 1 0 -> 5 0 1 0;  0 0 1 0  1 0 2 0  1 0 1 0 -> 1 0 1 0;  0 0 1 0  1 0 2 0  1 0 2 0 -> 1 0 1 0
+        1 1 0 0  0 0 2 0  1 0 2 0 -> 3 0 0 0
+        ",
+    )
+}
+
+// Books of N 2 with one name, on a sheet of one element where it is graded 1. Byte 5 of the sheet is I; its length is 13 more.
+fn counts_of(t: Tally, book: &[u8], table: &[u8]) -> Tally {
+    run(
+        t,
+        Recipe::Change,
+        book,
+        b"01 02  01 01 00 00  00 0C 00 0D 00 0D  01",
+        b"01",
+        table,
+    )
+}
+
+// One claim, for a set: of 7 in either sense, of 0, of 0 and 1, of all, of none.
+fn counted_members(mut t: Tally) -> Tally {
+    let eight = b"
+        5 8 21 4 -> 0;  5 7 20 4 -> 13;  5 9 22 4 -> 13;  5 1 14 4 -> 13;  5 0 13 4 -> 13
+        ";
+    t = counts_of(
+        t,
+        b"01 02  00 12 00 01  00 15 00 00  00 15 00 01  00 19 00 00  00 00 00  80 00 02 01",
+        eight,
+    );
+    t = counts_of(
+        t,
+        b"01 02  00 12 00 01  00 15 00 00  00 15 00 01  00 19 00 00  00 00 00  80 00 03 01",
+        eight,
+    );
+    t = counts_of(
+        t,
+        b"01 02  00 12 00 01  00 15 00 00  00 15 00 01  00 19 00 00  00 00 00  FF 00 02 01",
+        eight,
+    );
+    t = counts_of(
+        t,
+        b"01 02  00 12 00 01  00 15 00 00  00 15 00 01  00 19 00 00  00 00 00  01 00 02 01",
+        b"
+        5 1 14 4 -> 0;  5 0 13 4 -> 13;  5 2 15 4 -> 13
+        ",
+    );
+    t = counts_of(
+        t,
+        b"01 02  00 12 00 01  00 15 00 00  00 15 00 01  00 19 00 00  00 00 00  03 00 03 01",
+        b"
+        5 2 15 4 -> 0;  5 1 14 4 -> 13;  5 3 16 4 -> 13;  5 4 17 4 -> 13
+        ",
+    );
+    // at least 2, which the name is not
+    counts_of(
+        t,
+        b"01 02  00 12 00 01  00 15 00 00  00 15 00 01  00 19 00 00  00 00 00  00 00 02 02",
+        b"
+        5 0 13 4 -> 0;  5 1 14 4 -> 13;  5 8 21 4 -> 13
+        ",
+    )
+}
+
+// Several claims: for 1, then of individual 4; of individual 1, then for 0 and 5; for 2, for 5 and for none. Edition 2: for 0 and 2, for none.
+fn counted_sets(mut t: Tally) -> Tally {
+    t = counts_of(
+        t,
+        b"01 02  00 12 00 01  00 15 00 00  00 15 00 02  00 1D 00 00  00 00 00  02 00 02 01  04 00 01 01",
+        b"
+        5 5 18 4 -> 0;  5 2 15 4 -> 13;  5 3 16 4 -> 13;  5 4 17 4 -> 13;  5 6 19 4 -> 13
+        ",
+    );
+    let six = b"
+        5 6 19 4 -> 0;  5 5 18 4 -> 13;  5 7 20 4 -> 13;  5 8 21 4 -> 13
+        ";
+    t = counts_of(
+        t,
+        b"01 02  00 12 00 01  00 15 00 00  00 15 00 02  00 1D 00 00  00 00 00  01 00 00 01  21 00 02 01",
+        six,
+    );
+    t = counts_of(
+        t,
+        b"01 02  00 12 00 01  00 15 00 00  00 15 00 03  00 21 00 00  00 00 00  04 00 02 01  20 00 03 01  00 00 02 02",
+        six,
+    );
+    counts_of(
+        t,
+        b"02 02  00 16 00 01  00 19 00 00  00 19 00 02  00 21 00 00  00 21 00 00  00 00 00  05 00 02 01  00 00 03 00",
+        b"
+        5 3 16 4 -> 0;  5 2 15 4 -> 13;  5 4 17 4 -> 13
+        ",
+    )
+}
+
+// With a link claim: from 2, beside a claim for none; then to 2, beside claims for 0 and 3 and of individual 1. The sheet has a role, so its length
+// is 14 and I.
+fn counted_beside_links(mut t: Tally) -> Tally {
+    let sheet = b"01 02  01 01 01 00  00 0C 00 0D 00 0E  01  02";
+    t = run(
+        t,
+        Recipe::Change,
+        b"01 02  00 12 00 01  00 15 00 00  00 15 00 01  00 19 00 01  00 00 00  00 00 03 00  00 02 00 02",
+        sheet,
+        b"01",
+        b"
+        5 3 17 4 -> 0;  5 0 14 4 -> 13;  5 1 15 4 -> 13;  5 2 16 4 -> 13;  5 4 18 4 -> 13
+        ",
+    );
+    run(
+        t,
+        Recipe::Change,
+        b"01 02  00 12 00 01  00 15 00 00  00 15 00 02  00 1D 00 01  00 00 00  09 00 02 01  01 00 00 01  00 00 02 02",
+        sheet,
+        b"01",
+        b"
+        5 4 18 4 -> 0;  5 3 17 4 -> 13;  5 5 19 4 -> 13;  5 8 22 4 -> 13
+        ",
+    )
+}
+
+pub fn sets() -> Tally {
+    let t = sets_in_order(broken_sets(begin()));
+    counted_beside_links(counted_sets(counted_members(t)))
+}
+
 // N 4: name 0, "all r0" of it; then name 0, not, and, or, top, bottom; then five names of N 8, and a fault of the book.
 pub fn grades() -> Tally {
     let mut t = run(

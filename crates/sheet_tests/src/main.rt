@@ -15,6 +15,7 @@ fn main() {
     total = close(total, b"grids", cases::grids());
     total = close(total, b"verdicts", cases::verdicts());
     total = close(total, b"pairs", cases::pairs());
+    total = close(total, b"sets", cases::sets());
     total = close(total, b"grades", cases::grades());
     total = close(total, b"links", cases::links());
     total = close(total, b"links under pairs", cases::links_under_pairs());

@@ -21,6 +21,7 @@ pub enum Recipe {
     Change,
     Entries,
     Ranked,
+    Members,
     Grade,
     Link,
 }
@@ -31,6 +32,7 @@ fn columns(recipe: Recipe, r: Row) -> usize {
         Recipe::Change => 5,
         Recipe::Entries => 13,
         Recipe::Ranked => 16,
+        Recipe::Members => 14,
         Recipe::Grade => if cell(r, 2) == 0 { 4 } else { 3 },
         Recipe::Link => if cell(r, 3) == 0 { 5 } else { 4 },
     }
@@ -131,6 +133,17 @@ fn ranked(t: Tally, book: &[u8], sheet: &[u8], r: Row) -> Tally {
     work(t, book, &s[0..25], 64, expected, &wanted)
 }
 
+// Four grades of names, the elements of eight individuals -> what is broken, which. There are no roles.
+fn members(t: Tally, book: &[u8], sheet: &[u8], r: Row) -> Tally {
+    let mut s = [0u8; 64];
+    let mut wanted = [0xA5u8; 64];
+    text::write(&mut s, sheet);
+    set_all(&mut s, 12, r, 12);
+    set_all(&mut wanted, 0, r, 4);
+    let expected = said(small(r, 12), cell(r, 13), 0, 0);
+    work(t, book, &s[0..24], 64, expected, &wanted)
+}
+
 // A grade when the number is 0.
 fn graded(number: u8, grade: usize) -> Answer {
     if number == 0 {
@@ -155,6 +168,7 @@ fn case(t: Tally, recipe: Recipe, book: &[u8], sheet: &[u8], grid: &[u8], r: Row
         Recipe::Change => change(t, book, sheet, grid, r),
         Recipe::Entries => entries(t, book, sheet, r),
         Recipe::Ranked => ranked(t, book, sheet, r),
+        Recipe::Members => members(t, book, sheet, r),
         // candidate, term -> number, grade
         Recipe::Grade => {
             let a = of_grade(checker::grade(book, c, d));

@@ -1,10 +1,11 @@
-// A second decider. It tries the small interpretations of small books, and holds the decider to them; and it works out the interpretation of
-// the types that the decider lists. It is written from documents 01 and 02 alone.
+// A second decider. It tries the small interpretations of small books, and holds the decider to them; it works out the interpretation of the types
+// that the decider lists; and it has the book decided again with its sets written out. It is written from documents 01 and 02 alone.
 mod grades;
 mod listed;
 mod meets;
 mod random;
 mod shape;
+mod singles;
 mod types;
 mod worlds;
 
@@ -15,6 +16,8 @@ use reports::tally::Tally;
 use reports::tally::say;
 use reports::tally::say_count;
 use reports::text;
+use reports::text::same_bytes;
+use shape::Shape;
 use std::num::wrapping_add_u64;
 use worlds::Seen;
 
@@ -62,6 +65,46 @@ fn count(mut sums: Sums, outcome: u8) -> Sums {
     sums
 }
 
+// Is the same decided of a book that is the first bytes of `b`?
+fn same_decision(
+    b: &[u8],
+    length: usize,
+    outcome: u8,
+    survivors: usize,
+    marks: &[u8],
+    placement: &[u8],
+) -> bool {
+    let mut own_marks = [0xA5u8; 96];
+    let mut own_placement = [0xA5u8; 16];
+    if b.len() < length {
+        return false;
+    }
+    match decider::decide(&b[0..length], &mut own_marks, &mut own_placement) {
+        Decision::Refused(_) => false,
+        Decision::Decided(o, n) => {
+            o == outcome
+                && n == survivors
+                && same_bytes(&own_marks, marks)
+                && same_bytes(&own_placement, placement)
+        }
+    }
+}
+
+// Is the same decided of the book with its sets written out?
+fn same_written_out(
+    book: &[u8],
+    b: &[u8],
+    s: Shape,
+    outcome: u8,
+    survivors: usize,
+    marks: &[u8],
+    placement: &[u8],
+) -> bool {
+    let mut out = [0u8; 96];
+    let length = singles::write_out(book, b, s, &mut out);
+    same_decision(&out, length, outcome, survivors, marks, placement)
+}
+
 fn decided(
     mut sums: Sums,
     book: &[u8],
@@ -80,7 +123,8 @@ fn decided(
     seen.right = true;
     seen = worlds::all(seen, b, s, outcome, marks);
     sums.seen = seen;
-    let right = listed::right(b, s, outcome, survivors, marks, placement);
+    let right = listed::right(b, s, outcome, survivors, marks, placement)
+        && same_written_out(book, b, s, outcome, survivors, marks, placement);
     judged(count(sums, outcome), right && seen.right)
 }
 

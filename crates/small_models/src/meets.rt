@@ -7,6 +7,7 @@ use crate::shape::membership;
 use crate::shape::number;
 use crate::shape::pair;
 use crate::shape::rule;
+use crate::shape::speaks_of;
 use reports::numbers::times;
 use reports::text::byte;
 use reports::text::set;
@@ -52,15 +53,25 @@ pub fn pairs_met(b: &[u8], s: Shape, n: usize, w: &[u8]) -> bool {
     true
 }
 
-fn membership_met(b: &[u8], s: Shape, grid: &[u8], seats: &[u8], i: usize) -> bool {
-    let e = number(seats, membership(b, s, i, 0));
+// Does element `e` meet membership claim `i`? Senses 0 and 2 are "at least".
+fn element_meets(b: &[u8], s: Shape, grid: &[u8], i: usize, e: usize) -> bool {
     let g = number(grid, cell(e, s.terms, membership(b, s, i, 1)));
     let claimed = membership(b, s, i, 3);
-    if membership(b, s, i, 2) == 0 {
+    if membership(b, s, i, 2) % 2 == 0 {
         claimed <= g
     } else {
         g <= claimed
     }
+}
+
+// Does each individual that the claim speaks of?
+fn membership_met(b: &[u8], s: Shape, grid: &[u8], seats: &[u8], i: usize) -> bool {
+    for x in 0..s.individuals {
+        if speaks_of(b, s, i, x) && !element_meets(b, s, grid, i, number(seats, x)) {
+            return false;
+        }
+    }
+    true
 }
 
 fn link_met(b: &[u8], s: Shape, n: usize, w: &[u8], seats: &[u8], i: usize) -> bool {

@@ -35,8 +35,8 @@ pub fn head(book: &[u8]) -> usize {
     if byte(book, 0) == 2 { 22 } else { 18 }
 }
 
-// Part `k` of record `i` in the bodies: of a term (kind, a, b), of a rule (left, right), of a membership claim (individual, term, sense, grade),
-// of a link claim (role, from, to, grade), of a pair (lower, upper).
+// Part `k` of record `i` in the bodies: of a term (kind, a, b), of a rule (left, right), of a membership claim (individual or set, term, sense,
+// grade), of a link claim (role, from, to, grade), of a pair (lower, upper).
 pub fn term(b: &[u8], i: usize, k: usize) -> usize
     ensures { λ r. ⌜ r < 256 ⌝ }
 {
@@ -89,11 +89,40 @@ fn names(b: &[u8], terms: usize) -> usize {
     count
 }
 
-// One more than the highest individual of either sort of claim.
+// Is bit `x` of a set 1?
+fn is_member(set: usize, x: usize) -> bool {
+    let mut rest = set;
+    for _ in 0..x {
+        rest = rest / 2;
+    }
+    rest % 2 == 1
+}
+
+// Does membership claim `i` speak of individual `x`? In senses 2 and 3 it names a set.
+pub fn speaks_of(b: &[u8], s: Shape, i: usize, x: usize) -> bool {
+    let first = membership(b, s, i, 0);
+    if membership(b, s, i, 2) < 2 {
+        return first == x;
+    }
+    is_member(first, x)
+}
+
+// One more than the highest of the eight individuals that membership claim `i` speaks of.
+fn individuals_of_membership(b: &[u8], s: Shape, i: usize) -> usize {
+    let mut count = 0;
+    for x in 0..8 {
+        if speaks_of(b, s, i, x) {
+            count = x + 1;
+        }
+    }
+    count
+}
+
+// The same of all claims of either sort.
 fn individuals_of_memberships(b: &[u8], s: Shape) -> usize {
     let mut count = 0;
     for i in 0..s.memberships {
-        count = most(count, membership(b, s, i, 0) + 1);
+        count = most(count, individuals_of_membership(b, s, i));
     }
     count
 }

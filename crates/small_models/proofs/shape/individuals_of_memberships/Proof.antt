@@ -14,11 +14,8 @@ abbrev μ-loop : tie.MeasureT-loop
 loop-holds : tie.Need-loop-holds Inv-loop μ-loop
 loop-holds c = search needs
 
-membership-requires : tie.Need-membership-requires Inv-loop μ-loop
-membership-requires c κs = search needs
-
-add-most : tie.Need-add-most Inv-loop μ-loop
-add-most c = search needs
+individuals-of-membership-requires : tie.Need-individuals-of-membership-requires Inv-loop μ-loop
+individuals-of-membership-requires c κs = search needs
 
 most-requires : tie.Need-most-requires Inv-loop μ-loop
 most-requires c κs = search needs
@@ -42,8 +39,7 @@ individuals-of-memberships-spec =
     Inv-loop
     μ-loop
     loop-holds
-    membership-requires
-    add-most
+    individuals-of-membership-requires
     most-requires
     add-i
     loop-less
