@@ -25,12 +25,17 @@
  * every answer: a model is one of them. A pair may name one role twice, and pairs may recur. A role is above another when pairs, one or more, lead
  * up to it, also through roles that no term uses; circles of pairs are allowed, and make roles equal.
  *
+ * Sets: of either edition, a membership claim has four bytes: individual, term, sense, grade. With the senses 2 and 3, "at least" and "at most" for
+ * a set, the first byte is not an individual but a set, any byte: bit i, of value 2 to the power i, for individual i. The claim holds when each
+ * member meets it; the empty set, 0, claims nothing. Outcome, marks, placement and written sheet are those of the book that has a single claim for
+ * each member in its place, where that has room for them.
+ *
  * Words: N is the number of steps of the book's chain, byte 1 of the book; grades are 0 to N. The number of terms is in bytes 4 and 5. An
  * interpretation has one element or more, and gives names and links their grades. A type is a list of grades, one for each term; a
  * candidate is the number of a type. A survivor is a candidate whose mark is 1; the survivors are exactly the types that an element can
  * have in some finite interpretation that meets the rules and pairs. A quantified term is one of kind "some" or "all". n is a sheet's number of
  * elements; A, R and I are one more than the highest name, role and individual of the book's terms, claims and pairs, or 0 where there is none.
- * So a role that only a pair names counts towards R.
+ * So a role that only a pair names counts towards R, and each member of a set towards I.
  */
 #ifndef ZEGBIKO_H
 #define ZEGBIKO_H
@@ -44,7 +49,7 @@ extern "C" {
 
 /* ---- The version, also that of the Rust wrapper and the manual page; docs/USING.md, "Versions", says what it promises */
 
-#define ZEGBIKO_VERSION "1.1.0"
+#define ZEGBIKO_VERSION "1.2.0"
 
 /* ---- Sizes in bytes; the buffers of these sizes suffice for every book */
 
@@ -66,8 +71,10 @@ extern "C" {
 #define ZEGBIKO_KIND_ALL 5
 #define ZEGBIKO_KIND_TOP 6
 #define ZEGBIKO_KIND_BOTTOM 7
-#define ZEGBIKO_AT_LEAST 0
+#define ZEGBIKO_AT_LEAST 0      /* the claim's first byte is an individual, 0 to 7 */
 #define ZEGBIKO_AT_MOST 1
+#define ZEGBIKO_EACH_AT_LEAST 2 /* the claim's first byte is a set, bit i for individual i: each member has to meet the claim */
+#define ZEGBIKO_EACH_AT_MOST 3
 
 /* ---- Refusal numbers; zegbiko_refusal_text says what each means, docs/NUMBERS.md what usually causes it */
 
@@ -142,7 +149,7 @@ static inline const char *zegbiko_refusal_text(uint8_t refusal) {
 
 #define ZEGBIKO_MEETS 0             /* every rule, pair and claim is met */
 #define ZEGBIKO_BREAKS_RULE 1       /* the first rule broken, and the lowest element at which it is */
-#define ZEGBIKO_BREAKS_MEMBERSHIP 2 /* no rule and no pair is broken; the first membership claim broken */
+#define ZEGBIKO_BREAKS_MEMBERSHIP 2 /* no rule and no pair is broken; the first membership claim broken, one on a set by whichever member */
 #define ZEGBIKO_BREAKS_LINK 3       /* nor is one of these; the first link claim broken */
 #define ZEGBIKO_BREAKS_PAIR 4       /* no rule is broken; the first pair broken, its lowest first element, and then the lowest second one */
 

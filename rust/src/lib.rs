@@ -10,6 +10,10 @@
 //! A book of edition 2 may rank roles: an interpretation meets a pair of a lower and an upper role when the lower role's
 //! link never exceeds the upper's. Only interpretations that meet every pair count, in every answer.
 //!
+//! A membership claim is about one individual ([`AT_LEAST`], [`AT_MOST`]) or about a set of them ([`EACH_AT_LEAST`],
+//! [`EACH_AT_MOST`]), and then says of each member what a claim on that one would say: outcome, list, placement and written
+//! sheet are the same. The empty set claims nothing.
+//!
 //! No call keeps anything for a later one, so all may be made from several threads at once. None uses the heap, but for
 //! [`Decision::of`]. [`decide`] and [`write_sheet`] need some 1.2 MB of stack: a thread with Rust's default of 2 MB
 //! suffices, one of 1 MB does not. The others need a few KB. Deciding most books takes some 20 to 75 µs, but placing
@@ -54,7 +58,7 @@ use std::error::Error;
 use std::fmt;
 
 /// The version, of header, wrapper and manual page alike; `docs/USING.md`, "Versions", says what it promises.
-pub const VERSION: &str = "1.1.0";
+pub const VERSION: &str = "1.2.0";
 /// The bytes of the shortest book; of edition 2 it has 22.
 pub const BOOK_LEAST: usize = 18;
 /// The bytes of the longest book, which is of edition 2; of edition 1 it has 850.
@@ -86,10 +90,15 @@ pub const KIND_ALL: u8 = 5;
 pub const KIND_TOP: u8 = 6;
 /// The kind of bottom.
 pub const KIND_BOTTOM: u8 = 7;
-/// The sense "at least" of a membership claim.
+/// The sense "at least" of a membership claim on one individual, which the claim's first byte names.
 pub const AT_LEAST: u8 = 0;
-/// The sense "at most" of a membership claim.
+/// The sense "at most" of a membership claim on one individual.
 pub const AT_MOST: u8 = 1;
+/// The sense "at least" of a membership claim on a set, whose members each have to meet it: the claim's first byte has bit
+/// i set for individual i.
+pub const EACH_AT_LEAST: u8 = 2;
+/// The sense "at most" of a membership claim on a set.
+pub const EACH_AT_MOST: u8 = 3;
 
 macro_rules! refusals {
     ($($name:ident = $number:literal, $question:literal, $statement:literal;)*) => {
@@ -320,7 +329,7 @@ pub enum Verdict {
     /// No rule is broken; the first pair broken, the lowest element from which a link breaks it, and then the lowest to
     /// which one from there does.
     BreaksPair { pair: usize, first: usize, second: usize } = 4,
-    /// No rule and no pair is broken; the first membership claim broken.
+    /// No rule and no pair is broken; the first membership claim broken, one on a set by whichever member.
     BreaksMembership { claim: usize } = 2,
     /// Nor is one of these; the first link claim broken.
     BreaksLink { claim: usize } = 3,

@@ -255,10 +255,27 @@ fn mistakes() -> Vec<(u8, &'static str, u8)> {
             draft(|book| (book.terms[0], book.rules[0]) = ([NAME, 12, 0], [12, 1])),
         ),
         (7, "a term taken out of the book, and not out of its rules", draft(|book| book.terms.truncate(5))),
-        (8, "sense and grade exchanged, where the grade is above 1", draft(|book| book.memberships[0] = [0, 0, 3, 0])),
+        (8, "sense and grade exchanged, where the grade is above 3", draft(|book| book.memberships[0] = [0, 0, 4, 0])),
         (8, "a degree in percent, such as 75, in place of the grade", draft(|book| book.memberships[0][3] = 75)),
         (8, "N lowered, and a grade left above it", draft(|book| book.steps = 2)),
         (8, "individuals numbered from 1, with eight of them", draft(|book| book.memberships[1][0] = 8)),
+        (8, "a set in the first byte, above 7, and the sense left 0 or 1", {
+            let [meant, at_least, at_most] =
+                [2, 0, 1].map(|sense| draft(|book| book.memberships[0] = [0b1010, 0, sense, 3]));
+            assert!(meant == 0 && at_least == at_most);
+            at_least
+        }),
+        (
+            8,
+            "senses numbered from 1, so that \"at most\" for a set is 4",
+            draft(|book| book.memberships[1] = [0b11, 3, 4, 2]),
+        ),
+        (8, "a claim emptied by the set 0, and its term or grade filled with FF", {
+            let [emptied, term, grade] = [[0, 0, 2, 3], [0, 255, 2, 3], [0, 0, 2, 255]]
+                .map(|claim| draft(|book| book.memberships[0] = claim));
+            assert!(emptied == 0 && term == grade);
+            term
+        }),
         (9, "a degree in percent, such as 75, in place of the grade", draft(|book| book.links[0][3] = 75)),
         (9, "N lowered, and a grade left above it", draft(|book| (book.steps, book.memberships[0][3]) = (2, 1))),
         (9, "individuals numbered from 1, with eight of them", draft(|book| book.links[0][2] = 8)),
@@ -315,6 +332,16 @@ fn mistakes() -> Vec<(u8, &'static str, u8)> {
             let book = Draft { pairs: Some(vec![[1, 0]]), ..printed() };
             let linked = [&[1, 2, 1, 1, 2, 1, 0, 12, 0, 13, 0, 15][..], &[1, 0, 0, 0]].concat();
             assert_eq!(work_out(&book, &linked, zegbiko::GRID), 0);
+            work_out(&book, &SHEET, zegbiko::GRID)
+        }),
+        (13, "I without an individual that only a set has", {
+            let book = Draft { memberships: vec![[0b11, 0, 2, 1]], ..printed() };
+            assert_eq!(work_out(&book, &[&SHEET[..5], &[2], &SHEET[6..], &[0]].concat(), zegbiko::GRID), 0);
+            work_out(&book, &SHEET, zegbiko::GRID)
+        }),
+        (13, "I raised for an empty set", {
+            let book = Draft { memberships: vec![[0, 0, 2, 1]], ..printed() };
+            assert_eq!(work_out(&book, &[&SHEET[..5], &[0], &SHEET[6..13]].concat(), zegbiko::GRID), 0);
             work_out(&book, &SHEET, zegbiko::GRID)
         }),
         (13, "the book's edition in byte 0 of the sheet, where it is 2", {
@@ -411,10 +438,32 @@ fn unseen_mistakes_are_accepted() {
             vec![with(|book| book.terms[5][0] = OR), with(|book| book.terms[3][0] = ALL)],
         ),
         ("left and right of a rule exchanged", vec![with(|book| book.rules[0].reverse())]),
-        ("sense 0 for 1: \"at least\" for \"at most\"", vec![with(|book| book.memberships[1][2] = 0)]),
         (
-            "sense and grade of a membership claim exchanged, where the grade is 0 or 1",
-            vec![with(|book| book.memberships[1] = [1, 3, 0, 1])], // "at most 0"
+            "sense 0 for 1, or 2 for 3: \"at least\" for \"at most\"",
+            vec![with(|book| book.memberships[1][2] = 0), with(|book| book.memberships[1] = [0b10, 3, 2, 2])],
+        ),
+        (
+            "sense 2 for 0, or 3 for 1: the individual's number is then read as a set, so 6 as that of individuals 1 and 2",
+            vec![with(|book| book.memberships[0] = [6, 0, 2, 3]), with(|book| book.memberships[1] = [6, 3, 3, 2])],
+        ),
+        (
+            "sense 0 for 2, or 1 for 3, where the set is at most 7: that of individuals 1 and 2 is then individual 6",
+            vec![with(|book| book.memberships[0] = [0b110, 0, 0, 3]), with(|book| book.memberships[1] = [0b110, 3, 1, 2])],
+        ),
+        (
+            "the individuals of a set numbered from 1, or its bits from the highest down",
+            vec![
+                with(|book| book.memberships[1] = [0b100, 3, 3, 2]), // individual 1
+                with(|book| book.memberships[1] = [0b0100_0000, 3, 3, 2]),
+            ],
+        ),
+        ("a set left empty, which claims nothing", vec![with(|book| book.memberships[1] = [0, 3, 3, 2])]),
+        (
+            "sense and grade of a membership claim exchanged, where the grade is 0 to 3",
+            vec![
+                with(|book| book.memberships[1] = [1, 3, 0, 1]), // "at most 0"
+                with(|book| book.memberships[0] = [0, 0, 3, 0]),
+            ],
         ),
         (
             "individual and term of a membership claim exchanged, where both are in range",
@@ -458,6 +507,12 @@ fn unseen_mistakes_are_accepted() {
             assert!(book.bytes() != right().bytes() && check(&book.bytes()) == 0, "{mistake}");
         }
     }
+
+    let placed = |claim: [u8; 4]| {
+        let book = Draft { memberships: vec![claim], ..printed() };
+        zegbiko::Decision::of(&book.bytes()).map(|decision| decision.placed().len())
+    };
+    assert_eq!([placed([6, 0, 0, 1]), placed([6, 0, 2, 1])], [Ok(7), Ok(3)]); // individuals 0 to 6, and 0 to 2
 
     let on_pairs = [
         ("lower and upper role of a pair exchanged", [[0, 1]], [[1, 0]]),

@@ -20,11 +20,12 @@ use compared::tally::Tally;
 use generate::damage::damaged;
 use generate::random::Random;
 use generate::{books, sheets};
-use plain::book::{number, Book, Pair, Term};
+use plain::book::{Book, Pair, Term};
 use plain::placement::Decision;
 use plain::Plain;
 use support::buffer::Buffer;
 use support::calls::{Answer, Call};
+use support::draft::{is_set, Draft, AT_LEAST, AT_MOST, EACH_AT_LEAST, EACH_AT_MOST};
 
 const SEED: u64 = 1;
 const CASES: u64 = 100_000;
@@ -95,6 +96,7 @@ impl Case<'_> {
         let plain = Plain::open(&book);
         let mut case = Case { name: name(seed, edition, number), random, book, plain, tally };
         case.note_the_book();
+        case.note_the_sets();
         case.compare(Call::Check, &[]);
         case.compare(Call::Count, &[]);
         case.compare_candidates();
@@ -132,7 +134,7 @@ impl Case<'_> {
         [1, 2, 4, 8, 16].iter().for_each(|&n| note(&format!("of {n:2} sweeps or more"), eliminated.sweeps >= n));
         (64..=65).for_each(|n| note(&format!("of {n} survivors"), eliminated.survivors.len() == n));
         if !book.pairs.is_empty() && self.plain.count().is_ok_and(|count| count <= 81) {
-            let unranked = Plain::open(&without_pairs(&self.book));
+            let unranked = Plain::open(&Draft { pairs: None, ..Draft::of(&self.book) }.bytes());
             let Ok(other) = unranked.eliminated() else { unreachable!("as many candidates") };
             let (fewer, most) = (eliminated.survivors.len(), other.survivors.len());
             assert!(fewer <= most, "{}: with pairs no type comes to be that was not one", self.name);
@@ -142,6 +144,71 @@ impl Case<'_> {
             let held = matches!(unranked.decision(), Ok(Decision::HoldsTogether(_)));
             note("of outcome 2, 1 without their pairs", fails && held);
         }
+    }
+
+    /// Likewise, for claims on sets of individuals.
+    fn note_the_sets(&mut self) {
+        match self.plain.book() {
+            Ok(_) => {
+                self.note_right_sets();
+                self.note_what_sets_do();
+            }
+            Err(8) => self.note_wrong_sets(),
+            Err(_) => {}
+        }
+    }
+
+    fn note_right_sets(&mut self) {
+        let mut note = |name: &str, seen| self.tally.add(&format!("books accepted, {name}"), seen);
+        let book = Draft::of(&self.book);
+        let (sets, singles): (Vec<[u8; 4]>, Vec<_>) = book.memberships.iter().partition(|claim| is_set(claim));
+        note("no sets", sets.is_empty());
+        for sense in [EACH_AT_LEAST, EACH_AT_MOST] {
+            let seen = sets.iter().any(|claim| claim[2] == sense);
+            (1..=2).for_each(|n| note(&format!("edition {n}, sense {sense}"), seen && self.book[0] == n));
+        }
+        for n in 0..=8 {
+            note(&format!("a set of {n}"), sets.iter().any(|claim| claim[0].count_ones() == n));
+        }
+        note("64 sets", sets.len() == 64);
+        note("more than 64 claims when written out", book.written_out().memberships.len() > 64);
+        let meet = |single: &[u8; 4], set: &[u8; 4]| set[0] >> single[0] & 1 == 1 && set[1] == single[1];
+        let beside = singles.iter().any(|single| sets.iter().any(|set| meet(single, set)));
+        note("a set beside a single claim on a member and the same term", beside);
+    }
+
+    /// Books of few candidates, beside the same without their sets.
+    fn note_what_sets_do(&mut self) {
+        let mut note = |name: &str, seen| self.tally.add(&format!("books {name}"), seen);
+        let mut fewer = Draft::of(&self.book);
+        let sets = fewer.memberships.iter().any(is_set);
+        if !sets || self.plain.count().is_ok_and(|count| count > 81) {
+            return;
+        }
+        fewer.memberships.retain(|claim| !is_set(claim));
+        let other = Plain::open(&fewer.bytes());
+        let [with, without] = [&self.plain, &other].map(|book| book.book().map_or(0, Book::individuals));
+        note("accepted, sets and no individual", with == 0);
+        note("accepted, an individual that no other claim raises I to", without < with);
+        let [with, without] = [&self.plain, &other].map(|book| match book.decision() {
+            Ok(Decision::HoldsTogether(places)) => Some(places),
+            _ => None,
+        });
+        note("of outcome 2, 1 without their sets", with.is_none() && without.is_some());
+        let moved = with.zip(without).is_some_and(|(with, without)| !with.starts_with(without));
+        note("whose sets move an individual", moved);
+    }
+
+    fn note_wrong_sets(&mut self) {
+        let book = Draft::of(&self.book);
+        let mut note = |name: &str, wrong: &dyn Fn([u8; 4]) -> bool| {
+            self.tally.add(&format!("books refused 8, {name}"), book.memberships.iter().any(|&claim| wrong(claim)));
+        };
+        let empty = |claim: [u8; 4]| claim[0] == 0 && [EACH_AT_LEAST, EACH_AT_MOST].contains(&claim[2]);
+        note("a sense above 3", &|claim| claim[2] > EACH_AT_MOST);
+        note("an individual above 7", &|claim| claim[0] > 7 && [AT_LEAST, AT_MOST].contains(&claim[2]));
+        note("a wrong term in an empty set", &|claim| empty(claim) && usize::from(claim[1]) >= book.terms.len());
+        note("a wrong grade in an empty set", &|claim| empty(claim) && claim[3] > book.steps);
     }
 
     fn compare_candidates(&mut self) {
@@ -245,7 +312,25 @@ impl Case<'_> {
         let elements = sheet.get(2).map_or(0, |&n| usize::from(n));
         let terms = self.plain.book().map_or(0, |book| book.terms.len());
         let grid = self.near(elements * terms);
-        self.compare(Call::WorkOut { grid }, sheet).0
+        let (answer, _) = self.compare(Call::WorkOut { grid }, sheet);
+        if let [0, 2, claim, ..] = answer {
+            self.note_the_broken_claim(sheet, claim);
+        }
+        answer
+    }
+
+    /// Counts the sheets on which a claim on a set is named, by who of its members breaks it.
+    fn note_the_broken_claim(&mut self, sheet: &[u8], claim: usize) {
+        let Ok(book) = self.plain.book() else { unreachable!("worked out") };
+        let Ok(world) = book.read_sheet(sheet) else { unreachable!("worked out") };
+        let (rows, claimed) = (book.rows(&world), &book.memberships[claim]);
+        let met: Vec<bool> =
+            claimed.members.iter().map(|&member| claimed.met_by(&rows[world.individuals[member]])).collect();
+        let set = is_set(&Draft::of(&self.book).memberships[claim]);
+        let mut note = |name: &str, seen| self.tally.add(&format!("sheets that break a set, {name}"), set && seen);
+        note("every member", met.iter().all(|met| !met));
+        note("its lowest member alone", met.len() > 1 && met[1..].iter().all(|met| *met));
+        note("its highest member alone", met.len() > 1 && met[..met.len() - 1].iter().all(|met| *met));
     }
 
     /// A length, most often just sufficient, or a little shorter or longer.
@@ -312,17 +397,7 @@ fn has_a_way_through_an_unused_role(book: &Book) -> bool {
     roles.iter().any(|&lower| roles.iter().any(|&upper| apart(lower, upper) && between(lower, upper)))
 }
 
-/// The book of edition 1 with the same sections but for the pairs.
-fn without_pairs(book: &[u8]) -> Vec<u8> {
-    let mut bytes = [&[1], &book[1..18], &book[22..number(&book[18..20])]].concat();
-    for entry in bytes[2..18].chunks_mut(4) {
-        let offset = number(entry) - 4;
-        entry[..2].copy_from_slice(&(offset as u16).to_be_bytes());
-    }
-    bytes
-}
-
 fn individuals(book: &Book) -> BTreeSet<usize> {
     let linked = book.links.iter().flat_map(|claim| [claim.from, claim.to]);
-    book.memberships.iter().map(|claim| claim.individual).chain(linked).collect()
+    book.memberships.iter().flat_map(|claim| claim.members.iter().copied()).chain(linked).collect()
 }

@@ -1,5 +1,6 @@
-//! The readings of the specification (document 01, and P1 of document 02) and the hard books of the benchmark, held against
-//! the library and the plain implementation alike. The expected values come from the documents, or were worked out by hand.
+//! The readings of the specification (document 01, and P1 and P2 of document 02) and the hard books of the benchmark, held
+//! against the library and the plain implementation alike. The expected values come from the documents, or were worked out
+//! by hand.
 
 mod plain;
 mod support;
@@ -9,10 +10,9 @@ use std::fs;
 use plain::Plain;
 use support::buffer::Buffer;
 use support::calls::{self, Answer, Call, Side};
-use support::draft::{Draft, ALL, AND, BOTTOM, NAME, NOT, OR, SOME, TOP};
-
-const AT_LEAST: u8 = 0;
-const AT_MOST: u8 = 1;
+use support::draft::{
+    Draft, ALL, AND, AT_LEAST, AT_MOST, BOTTOM, EACH_AT_LEAST, EACH_AT_MOST, NAME, NOT, OR, SOME, TOP,
+};
 
 const SIDES: [Side; 3] = [plainly, calls::wrapped, calls::raw];
 
@@ -94,6 +94,7 @@ fn the_printed_book() {
     let book = printed_book();
     let printed = "01 02 00 12 00 02 00 18 00 02 00 1C 00 01 00 20 00 00 00 00 00 01 00 00 00 01 01 00 00 00 00 01";
     assert_eq!(book.bytes(), from_hex(printed));
+    assert_eq!(Draft::of(&book.bytes()).bytes(), book.bytes());
     decided(&book, 1, &[1], &[1]);
     decided(&Draft { steps: 1, ..book }, 3, &[], &[]);
 }
@@ -445,6 +446,7 @@ fn the_bytes_of_edition_2() {
          00 00 00  01 00 00   00 01  01 00   00 00 00 01   00 07  03 03",
     );
     assert_eq!(ranked(&printed_book(), &[[0, 7], [3, 3]]).bytes(), bytes);
+    assert_eq!(Draft::of(&bytes).bytes(), bytes);
     decided(&ranked(&printed_book(), &[[0, 7], [3, 3]]), 1, &[1], &[1]);
 }
 
@@ -540,8 +542,154 @@ fn pairs_that_name_a_role_above_7() {
     }
 }
 
+/// A and bottom on two steps, with these membership claims.
+fn of_a(memberships: &[[u8; 4]]) -> Draft {
+    let terms = vec![[NAME, 0, 0], [BOTTOM, 0, 0]];
+    Draft { terms, memberships: memberships.to_vec(), ..Draft::new(2) }
+}
+
+/// The book in both editions.
+fn editions(book: &Draft) -> [Draft; 2] {
+    [book.clone(), ranked(book, &[])]
+}
+
+/// "Senses 2 and 3 mean "at least" and "at most" for a set: the first byte has bit i set for individual i, and the claim
+/// holds when each member meets it."
+#[test]
+fn claims_on_sets() {
+    let (a, all) = (0, [0, 1, 2]);
+    let placed = |memberships: &[[u8; 4]], expected: &[usize]| {
+        for book in editions(&of_a(memberships)) {
+            decided(&book, 1, &all, expected);
+            decided(&book.written_out(), 1, &all, expected);
+        }
+    };
+    placed(&[[0b101, a, EACH_AT_LEAST, 1], [0b110, a, EACH_AT_LEAST, 2]], &[1, 2, 2]);
+    placed(&[[0b111, a, EACH_AT_LEAST, 1], [0b010, a, EACH_AT_MOST, 1], [0b001, a, EACH_AT_LEAST, 2]], &[2, 1, 1]);
+    // Beside single claims, and with each bit.
+    placed(&[[1, a, AT_LEAST, 2], [0b11, a, EACH_AT_LEAST, 1]], &[1, 2]);
+    placed(&[[0b1010_0101, a, EACH_AT_LEAST, 1], [0b1001_0110, a, EACH_AT_LEAST, 2]], &[1, 2, 2, 0, 2, 1, 0, 2]);
+    // One member that cannot meet the claim is enough.
+    for (claims, expected) in [
+        ([[0b011, a, EACH_AT_LEAST, 2], [1, a, AT_MOST, 1]], 2),
+        ([[0b011, a, EACH_AT_LEAST, 2], [2, a, AT_MOST, 1]], 1),
+        ([[0b110, a, EACH_AT_MOST, 0], [0b011, a, EACH_AT_LEAST, 1]], 2),
+        ([[0b100, a, EACH_AT_MOST, 0], [0b011, a, EACH_AT_LEAST, 1]], 1),
+    ] {
+        editions(&of_a(&claims)).iter().for_each(|book| outcome(book, expected));
+    }
+    // A link between members of two sets: individual 0 sees A through "all", and 1 has less of it.
+    for (most, expected) in [(1, 2), (2, 1)] {
+        let mut book = linked_to_itself(most);
+        book.memberships = vec![[0b101, 1, EACH_AT_LEAST, 2], [0b010, 0, EACH_AT_MOST, most]];
+        book.links = vec![[0, 0, 1, 2]];
+        editions(&book).iter().for_each(|book| outcome(book, expected));
+    }
+}
+
+/// "An empty set claims nothing and raises no individual count."
+#[test]
+fn empty_sets() {
+    let [a, bottom] = [0, 1];
+    // What nobody meets, of nobody.
+    let unmet = [0, bottom, EACH_AT_LEAST, 2];
+    let without = from_hex("01 02 01 01 00 00 00 0C 00 0D 00 0D 01");
+    for book in editions(&of_a(&[unmet, [0, a, EACH_AT_MOST, 0]])) {
+        decided(&book, 1, &[0, 1, 2], &[]);
+        answers(&book, &without, Call::WorkOut { grid: 2 }, [0, 0], &[1, 0]);
+    }
+    for book in editions(&of_a(&[unmet, [2, a, AT_LEAST, 1]])) {
+        decided(&book, 1, &[0, 1, 2], &[0, 0, 1]);
+        answers(&book, &without, Call::WorkOut { grid: 2 }, [13], &[]);
+    }
+}
+
+#[test]
+fn an_individual_that_only_a_set_has() {
+    let sheet = |elements: &[u8]| {
+        let head = [1, 2, 2, 1, 0, elements.len() as u8, 0, 12, 0, 14, 0, 14];
+        [&head[..], &[0, 2], elements].concat() // A is graded 0 at element 0, and 2 at element 1
+    };
+    for book in editions(&of_a(&[[0b1000_0000, 0, EACH_AT_LEAST, 1]])) {
+        decided(&book, 1, &[0, 1, 2], &[0, 0, 0, 0, 0, 0, 0, 1]);
+        answers(&book, &sheet(&[0, 0, 0, 0, 0, 0, 0, 1]), Call::WorkOut { grid: 4 }, [0, 0], &[0, 0, 2, 0]);
+        answers(&book, &sheet(&[1, 1, 1, 1, 1, 1, 1, 0]), Call::WorkOut { grid: 4 }, [0, 2, 0], &[0, 0, 2, 0]);
+        answers(&book, &sheet(&[1]), Call::WorkOut { grid: 4 }, [13], &[]);
+    }
+}
+
+/// A broken claim on a set has its own number, whichever member breaks it.
+#[test]
+fn a_set_that_a_sheet_breaks() {
+    let [a, bottom] = [0, 1];
+    let mut book = of_a(&[
+        [0, bottom, EACH_AT_LEAST, 2],
+        [0b101, a, EACH_AT_LEAST, 1],
+        [1, a, AT_MOST, 1],
+        [0b110, a, EACH_AT_MOST, 1],
+    ]);
+    book.links = vec![[0, 0, 0, 1]];
+    // Three elements with A graded 0, 1 and 2, of which the second has a link to itself; then those of the individuals.
+    let works_out = |individuals: [u8; 3], verdict: [usize; 2]| {
+        let head = from_hex("01 02 03 01 01 03 00 0C 00 0F 00 18");
+        let sheet = [&head[..], &[0, 1, 2], &[0, 0, 0, 0, 1, 0, 0, 0, 0], &individuals].concat();
+        for book in editions(&book) {
+            answers(&book, &sheet, Call::WorkOut { grid: 6 }, [0, verdict[0], verdict[1]], &[0, 0, 1, 0, 2, 0]);
+        }
+    };
+    works_out([1, 0, 1], [0, 0]);
+    // By the lowest member, by the highest, by both.
+    works_out([0, 0, 1], [2, 1]);
+    works_out([1, 0, 0], [2, 1]);
+    works_out([0, 0, 0], [2, 1]);
+    works_out([1, 1, 2], [2, 3]);
+    // A set and a single claim are broken: the first is named, whichever it is.
+    works_out([0, 2, 1], [2, 1]);
+    works_out([1, 2, 1], [2, 2]);
+    // By an individual that is no member, and then the link claim.
+    works_out([2, 0, 1], [3, 0]);
+    works_out([2, 2, 2], [2, 2]);
+}
+
+/// "Check 8 admits both senses": a set is any byte, an individual 0 to 7; and in an empty set too term and grade are checked.
+#[test]
+fn senses_and_first_bytes() {
+    for (first, sense) in (0..=255).flat_map(|first| (0..=255).map(move |sense| (first, sense))) {
+        let admitted = if sense <= AT_MOST { first <= 7 } else { sense <= EACH_AT_MOST };
+        answers_check(&of_a(&[[first, 0, sense, 0]]).bytes(), if admitted { 0 } else { 8 });
+    }
+    for sense in [AT_LEAST, AT_MOST, EACH_AT_LEAST, EACH_AT_MOST] {
+        for (term, grade, expected) in [(1, 2, 0), (2, 2, 8), (255, 0, 8), (1, 3, 8), (0, 255, 8)] {
+            for book in editions(&of_a(&[[0, term, sense, grade]])) {
+                answers_check(&book.bytes(), expected);
+            }
+        }
+    }
+}
+
+/// "Where it then fits in 64 claims": a book with sets may say more than one without.
+#[test]
+fn sets_that_do_not_fit_written_out() {
+    let a = 0;
+    for (sets, fits) in [(8, true), (9, false), (64, false)] {
+        let mut book = of_a(&vec![[255, a, EACH_AT_LEAST, 1]; sets]);
+        book.memberships[0] = [0b1111_1111, a, EACH_AT_MOST, 1];
+        for book in editions(&book) {
+            decided(&book, 1, &[0, 1, 2], &[1; 8]);
+            let written_out = book.written_out();
+            assert_eq!(written_out.memberships.len(), 8 * sets);
+            if fits {
+                decided(&written_out, 1, &[0, 1, 2], &[1; 8]);
+            } else {
+                answers_check(&written_out.bytes(), if sets == 64 { 1 } else { 4 });
+                // 512 claims are too long as well
+            }
+        }
+    }
+}
+
 /// The hard books that the plain implementation decides within five seconds.
-const QUICK: [&str; 15] = [
+const QUICK: [&str; 16] = [
     "unmeetable_last",
     "unmeetable_unmentioned",
     "names_only",
@@ -557,6 +705,7 @@ const QUICK: [&str; 15] = [
     "web_of_8_n3",
     "web_of_7_n2",
     "web_of_5_n4_none",
+    "sets_of_8",
 ];
 
 /// Outcome and number of survivors are in the file; for the quick ones the sides agree on every mark and place too.

@@ -16,11 +16,12 @@ use plain::book::{Book, Grade};
 use plain::grades::{Interpretation, Verdict};
 use plain::placement::Decision;
 use plain::Plain;
-use support::draft::{Draft, ALL, BOTTOM, NAME, NOT, SOME, TOP};
+use support::draft::{is_set, Draft, ALL, BOTTOM, EACH_AT_LEAST, NAME, NOT, SOME, TOP};
 
 const BOOKS: u64 = 60;
 
-/// One name, a few quantified terms of two roles or three, rules and claims, and pairs in four of five.
+/// One name, a few quantified terms of two roles or three, rules and claims, and pairs in four of five. Half of the
+/// membership claims are on a set of two individuals, of one or of none.
 fn drawn(random: &mut Random) -> Draft {
     let steps = random.pick(&[1, 1, 1, 1, 2]);
     let roles = if steps == 1 { 3 } else { 2 };
@@ -42,6 +43,11 @@ fn drawn(random: &mut Random) -> Draft {
     }
     let count = random.pick(&[0, 1, 1, 2, 3]);
     book.pairs = Some((0..count).map(|_| [random.up_to(roles - 1), random.up_to(roles - 1)]).collect());
+    for claim in &mut book.memberships {
+        if random.one_in(2) {
+            *claim = [random.up_to(3), claim[1], claim[2] + EACH_AT_LEAST, claim[3]];
+        }
+    }
     book
 }
 
@@ -68,7 +74,7 @@ fn each(book: &Book, elements: usize, mut see: impl FnMut(&Interpretation)) {
 
 #[test]
 fn types_and_outcomes() {
-    let (mut tried, mut equal, mut outcomes, mut by_pairs) = (0, 0, [0; 3], 0);
+    let (mut tried, mut equal, mut outcomes, mut by_pairs, mut with_sets) = (0, 0, [0; 3], 0, [0; 3]);
     for case in 0..BOOKS {
         let draft = drawn(&mut Random::of(1, case));
         let plain = Plain::open(&draft.bytes());
@@ -106,12 +112,16 @@ fn types_and_outcomes() {
                 outcomes[2] += 1;
             }
         }
+        for (members, books) in (0..).zip(&mut with_sets) {
+            let is_such = |claim: &[u8; 4]| is_set(claim) && claim[0].count_ones() == members;
+            *books += usize::from(draft.memberships.iter().any(is_such));
+        }
         let unranked = Plain::open(&Draft { pairs: None, ..draft }.bytes());
         by_pairs += usize::from(unranked.eliminated().expect("few").survivors.len() > survivors.len());
     }
     println!(
         "{BOOKS} books, {tried} interpretations; outcomes 1 to 3: {outcomes:?}; pairs take types away in {by_pairs}"
     );
-    println!("in {equal} books every type occurs with two elements or one");
-    assert!(outcomes.iter().all(|&count| count > 0) && by_pairs > 0 && equal > 0);
+    println!("in {equal} books every type occurs with two elements or one; sets of 0 to 2 are in {with_sets:?}");
+    assert!(outcomes.iter().chain(&with_sets).all(|&count| count > 0) && by_pairs > 0 && equal > 0);
 }

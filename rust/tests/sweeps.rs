@@ -23,7 +23,7 @@ use plain::grades::Interpretation;
 use plain::Plain;
 use support::buffer::Buffer;
 use support::calls::{Answer, Call};
-use support::draft::{Draft, ALL, AND, NAME, NOT, OR, SOME, TOP};
+use support::draft::{is_set, Draft, ALL, AND, EACH_AT_LEAST, NAME, NOT, OR, SOME, TOP};
 
 /// With more candidates a book is not decided here: the plain implementation takes long.
 const FEW: usize = 256;
@@ -36,17 +36,25 @@ const PRINTED: &str = "
     00 00 00 01
 ";
 
-/// All kinds of terms, quantified four deep, and a rule and claims that some interpretations break. N is 4.
+/// The same with claims on sets: A at least 1 of 1 and 2, "not A" at most 1 of 0 and 2, and on an empty set what nobody meets.
+const SETS: &str = "
+    01 02  00 12 00 02  00 18 00 02  00 1C 00 04  00 2C 00 00
+    00 00 00  01 00 00
+    00 01  01 00
+    00 00 00 01  06 00 02 01  05 01 03 01  00 01 02 02
+";
+
+/// All kinds of terms, quantified four deep, a rule, and claims that some interpretations break, two of them on sets. N is 4.
 const FOUR_DEEP: &str = "
-    01 04  00 12 00 10  00 42 00 01  00 44 00 02  00 4C 00 01
+    01 04  00 12 00 10  00 42 00 01  00 44 00 03  00 50 00 01
     00 00 00  00 01 00  06 00 00  07 00 00  01 00 00  02 01 04  03 00 05  04 00 01
     05 01 00  04 01 05  05 00 07  01 0A 00  04 00 0B  05 01 0C  02 0D 09  03 0E 08
     0E 0D
-    00 07 00 01  01 0F 01 03
+    00 07 00 01  06 0F 03 03  05 00 02 01
     01 00 01 01
 ";
 
-/// Every sort of record. N is 2, and there are eight places: with one more there are too many candidates.
+/// Every sort of record; of the membership claims three are on sets, one of them empty. N is 2, and there are eight places: with one more there are too many candidates.
 const LARGER: &str = "
     01 02  00 12 00 30  00 A2 00 18  00 D2 00 10  01 12 00 0C
     00 00 00  00 07 00  00 0F 00  00 04 00  01 00 00  02 01 04  03 02 03  06 00 00  07 00 00  04 00 05  05 07 06  04 03 07
@@ -55,19 +63,20 @@ const LARGER: &str = "
     01 22 00  02 1A 09  03 24 08  03 17 09  01 1A 00  02 1D 1F  02 1E 19  03 1F 15  02 1F 11  06 00 00  01 13 00  02 2E 00
     00 01  2F 00  00 2F  0D 0D  15 29  0B 25  00 1E  23 10  14 2A  11 1D  12 20  29 2B
     16 16  11 29  16 2F  1A 16  0B 2C  1C 17  15 21  09 21  0A 0C  17 1E  12 2C  05 2E
-    00 00 00 00  07 2F 01 02  06 0A 01 01  04 2E 00 00  02 25 01 02  02 0E 00 02  00 1E 00 00  00 08 00 01
-    02 1E 00 02  00 1A 01 01  06 2A 00 02  03 0F 01 00  05 19 01 01  01 2C 01 00  04 06 01 02  05 25 01 01
+    00 00 00 00  07 2F 01 02  06 0A 01 01  04 2E 00 00  A5 25 03 02  02 0E 00 02  00 1E 00 00  00 08 02 01
+    02 1E 00 02  00 1A 01 01  48 2A 02 02  03 0F 01 00  05 19 01 01  01 2C 01 00  04 06 01 02  05 25 01 01
     00 00 00 00  07 07 07 02  02 06 06 02  05 07 02 00  06 07 03 00  01 05 00 01
     01 05 02 01  06 06 06 00  07 04 07 02  06 06 02 02  04 04 07 01  06 00 05 01
 ";
 
 /// Edition 2: of three roles each is under the next, the second by way of one that no term uses, and a fifth under itself.
-/// N is 2. Some interpretations break the rule, some each pair but the last, and some each claim.
+/// N is 2. Claims on sets of 0 and 1, of 1 and 2, whom no other claim mentions, and of nobody. Some interpretations break the
+/// rule, some each pair but the last, and some each claim but that on nobody.
 const RANKED: &str = "
-    02 02  00 16 00 04  00 22 00 01  00 24 00 01  00 28 00 02  00 30 00 04
+    02 02  00 16 00 04  00 22 00 01  00 24 00 04  00 34 00 02  00 3C 00 04
     00 00 00  04 00 00  05 01 00  04 02 00
     01 03
-    00 02 00 01
+    00 02 00 01  03 00 02 01  06 02 03 01  00 03 03 00
     00 00 01 01  03 01 00 02
     00 01  01 03  03 02  04 04
 ";
@@ -95,7 +104,10 @@ impl Sweep {
         let plain = Plain::open(book);
         self.call(book, &plain, &[], Call::Check);
         if let Some(marks) = plain.count().ok().filter(|&count| count <= FEW) {
-            self.call(book, &plain, &[], Call::Decide { marks, placement: zegbiko::PLACEMENT });
+            let sets = Draft::of(book).memberships.iter().any(is_set);
+            let ([_, outcome, ..], _) =
+                self.call(book, &plain, &[], Call::Decide { marks, placement: zegbiko::PLACEMENT });
+            (1..=3).for_each(|n| self.tally.add(&format!("outcome  {n} with sets"), sets && outcome == n));
         }
         self.call(book, &plain, &[], Call::Count).0
     }
@@ -103,7 +115,13 @@ impl Sweep {
     /// Compares what is worked out of a sheet, with grids of these lengths, and gives them.
     fn sheet(&mut self, book: &[u8], plain: &Plain, sheet: &[u8], grids: &[usize]) -> Vec<Buffer> {
         self.compared += 1;
-        grids.iter().flat_map(|&grid| self.call(book, plain, sheet, Call::WorkOut { grid }).1).collect()
+        let mut worked_out = |&grid: &usize| {
+            let (answer, buffers) = self.call(book, plain, sheet, Call::WorkOut { grid });
+            let set = matches!(answer, [0, 2, claim, ..] if is_set(&Draft::of(book).memberships[claim]));
+            self.tally.add("verdict  2 on a set", set);
+            buffers
+        };
+        grids.iter().flat_map(&mut worked_out).collect()
     }
 
     fn call(&mut self, book: &[u8], plain: &Plain, sheet: &[u8], call: Call) -> (Answer, Vec<Buffer>) {
@@ -139,7 +157,7 @@ fn changed(bytes: &[u8]) -> impl Iterator<Item = Vec<u8>> + '_ {
 fn books() {
     let refusals = [("refusal", 1..=10), ("refusal", 22..=22), ("outcome", 1..=3)];
     let mut sweep = Sweep::begin(0, Tally::demanding(&refusals));
-    for book in [PRINTED, LARGER, RANKED].map(from_hex) {
+    for book in [PRINTED, SETS, LARGER, RANKED].map(from_hex) {
         for edition in 0..=3 {
             let book = [&[edition], &book[1..]].concat();
             for book in cut_and_extended(&book, zegbiko::BOOK_MOST + 1) {
@@ -179,7 +197,7 @@ const FAULTS_OF_EDITION_2: [(usize, usize, u8); 10] = [
     (5, 19, 81),
     (6, 67, 8),
     (7, 70, 16),
-    (8, 72, 8),
+    (8, 74, 4),
     (9, 76, 8),
     (22, 81, 8),
     (10, 64, SOME),
@@ -225,7 +243,11 @@ fn drawn(random: &mut Random, edition: u8) -> Vec<u8> {
     }
     let (terms, grades) = (book.terms.len() as u8, book.steps + 1);
     book.rules = (0..byte(5)).map(|_| [terms, terms].map(&mut byte)).collect();
-    book.memberships = (0..byte(5)).map(|_| [8, terms, 2, grades].map(&mut byte)).collect();
+    for _ in 0..byte(5) {
+        let sense = byte(4);
+        let first = if sense < EACH_AT_LEAST { 8 } else { 255 };
+        book.memberships.push([byte(first), byte(terms), sense, byte(grades)]);
+    }
     book.links = (0..byte(5)).map(|_| [8, 8, 8, grades].map(&mut byte)).collect();
     if edition == 2 {
         book.pairs = Some((0..byte(5)).map(|_| [8, 8].map(&mut byte)).collect());
@@ -301,7 +323,9 @@ fn deep(random: &mut Random) -> Vec<u8> {
         };
     }
     book.rules.push([random.up_to(63), random.up_to(63)]);
-    book.memberships.push([random.up_to(7), 63, random.up_to(1), random.up_to(book.steps)]);
+    let sense = random.up_to(3);
+    let first = if sense < EACH_AT_LEAST { 7 } else { 255 };
+    book.memberships.push([random.up_to(first), 63, sense, random.up_to(book.steps)]);
     book.links.push([7, 7, random.up_to(7), random.up_to(book.steps)]);
     if random.one_in(2) {
         book.pairs = Some((0..1 + random.below(4)).map(|_| [random.up_to(7), random.up_to(7)]).collect());

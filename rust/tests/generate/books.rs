@@ -4,11 +4,13 @@ use std::collections::BTreeSet;
 
 use super::damage::{damaged, damaged_by_edition};
 use super::random::Random;
+use super::sets;
 use crate::support::draft::{Draft, ALL, AND, BOTTOM, NAME, NOT, OR, SOME, TOP};
 
 const MOST_CANDIDATES: usize = 16_384;
 
-/// Any book of edition 1: one in four damaged, the others right but for those past a limit.
+/// Any book of edition 1: one in four damaged, the others right but for those past a limit. Half of them have claims on
+/// sets of individuals.
 pub fn any(random: &mut Random) -> Vec<u8> {
     let book = match random.below(200) {
         0..=74 => mixed(random),
@@ -21,12 +23,17 @@ pub fn any(random: &mut Random) -> Vec<u8> {
         136..=139 => too_wide(random),
         140..=141 => Draft::new(steps(random)),
         142..=144 => too_many(random),
+        145..=151 => {
+            let book = mixed(random);
+            return sets::damaged(random, book).bytes();
+        }
         _ => {
             let book = random.pick(&[mixed, mixed, chain, full])(random);
+            let book = sets::mixed_in(random, book);
             return damaged(random, book.bytes());
         }
     };
-    book.bytes()
+    sets::mixed_in(random, book).bytes()
 }
 
 /// Any book of edition 2, likewise.
@@ -44,13 +51,18 @@ pub fn ranked(random: &mut Random) -> Vec<u8> {
         134..=135 => Draft { pairs: Some(Vec::new()), ..Draft::new(steps(random)) },
         136..=139 => too_many_ranked(random),
         140..=144 => wrong_pair(random),
+        145..=151 => {
+            let book = with_pairs(random, mixed);
+            return sets::damaged(random, book).bytes();
+        }
         _ => {
             let book = random.pick(&[mixed, mixed, chain, full]);
             let book = with_pairs(random, book);
+            let book = sets::mixed_in(random, book);
             return damaged_by_edition(random, book.bytes());
         }
     };
-    book.bytes()
+    sets::mixed_in(random, book).bytes()
 }
 
 fn steps(random: &mut Random) -> u8 {

@@ -3,4 +3,5 @@
 pub mod books;
 pub mod damage;
 pub mod random;
+pub mod sets;
 pub mod sheets;

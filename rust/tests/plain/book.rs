@@ -28,8 +28,9 @@ pub enum Sense {
     AtMost,
 }
 
+/// "The claim holds when each member meets it." A claim about one individual has just that member.
 pub struct Membership {
-    pub individual: usize,
+    pub members: BTreeSet<usize>,
     pub term: usize,
     pub sense: Sense,
     pub grade: Grade,
@@ -117,9 +118,9 @@ impl Book {
         one_more_than_highest(in_terms.chain(in_claims).chain(in_pairs).map(usize::from))
     }
 
-    /// I: one more than the highest individual claimed, or 0.
+    /// I: one more than the highest individual claimed, or 0. "An empty set .. raises no individual count."
     pub fn individuals(&self) -> usize {
-        let in_memberships = self.memberships.iter().map(|claim| claim.individual);
+        let in_memberships = self.memberships.iter().flat_map(|claim| claim.members.iter().copied());
         let in_links = self.links.iter().flat_map(|claim| [claim.from, claim.to]);
         one_more_than_highest(in_memberships.chain(in_links))
     }
@@ -169,13 +170,24 @@ fn rule(terms: usize, record: &[u8]) -> Option<Rule> {
 }
 
 fn membership(steps: Grade, terms: usize, record: &[u8]) -> Option<Membership> {
-    let (individual, term, grade) = (usize::from(record[0]), usize::from(record[1]), record[3]);
-    let sense = match record[2] {
-        0 => Sense::AtLeast,
-        1 => Sense::AtMost,
+    let (term, grade) = (usize::from(record[1]), record[3]);
+    let (members, sense) = match record[2] {
+        0 => (single(record[0])?, Sense::AtLeast),
+        1 => (single(record[0])?, Sense::AtMost),
+        2 => (set(record[0]), Sense::AtLeast),
+        3 => (set(record[0]), Sense::AtMost),
         _ => return None,
     };
-    (individual <= 7 && term < terms && grade <= steps).then_some(Membership { individual, term, sense, grade })
+    (term < terms && grade <= steps).then_some(Membership { members, term, sense, grade })
+}
+
+fn single(individual: u8) -> Option<BTreeSet<usize>> {
+    (individual <= 7).then(|| BTreeSet::from([usize::from(individual)]))
+}
+
+/// "The first byte has bit i set for individual i."
+fn set(bits: u8) -> BTreeSet<usize> {
+    (0..8).filter(|individual| bits >> individual & 1 == 1).collect()
 }
 
 fn link_claim(steps: Grade, record: &[u8]) -> Option<LinkClaim> {

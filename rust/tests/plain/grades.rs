@@ -77,7 +77,8 @@ impl Book {
             }
         }
         let row_of = |individual: usize| &rows[world.individuals[individual]];
-        if let Some(claim) = self.memberships.iter().position(|claim| !claim.met_by(row_of(claim.individual))) {
+        let met = |claim: &Membership| claim.members.iter().all(|&member| claim.met_by(row_of(member)));
+        if let Some(claim) = self.memberships.iter().position(|claim| !met(claim)) {
             return Verdict::BreaksMembership { claim };
         }
         let link_of = |claim: &LinkClaim| {
@@ -100,7 +101,7 @@ impl Pair {
 }
 
 impl Membership {
-    /// Whether the claim is met where its individual's element has this row of grades.
+    /// Whether a member meets the claim whose element has this row of grades.
     pub fn met_by(&self, row: &[Grade]) -> bool {
         match self.sense {
             Sense::AtLeast => row[self.term] >= self.grade,

@@ -1,5 +1,5 @@
-//! The specification (document 01, and P1 of document 02) once more, written from its text alone and the obvious way:
-//! bytes are read into plain values, each sentence is a function, and speed is no aim but in placing. It is the other
+//! The specification (document 01, and P1 and P2 of document 02) once more, written from its text alone and the obvious
+//! way: bytes are read into plain values, each sentence is a function, and speed is no aim but in placing. It is the other
 //! side of the differential test and of the sweeps.
 //!
 //! A refusal is its number; `ask` is the rule "the first no gives the number".

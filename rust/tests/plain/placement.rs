@@ -26,10 +26,10 @@ impl Book {
         }
     }
 
-    /// For each individual the survivors that meet the claims about it alone.
+    /// For each individual the survivors that meet what is claimed of it alone, in sets too.
     pub fn seats(&self, survivors: &Types) -> Seats {
         let alone = |individual: usize, row: &[Grade]| {
-            let mut memberships = self.memberships.iter().filter(|claim| claim.individual == individual);
+            let mut memberships = self.memberships.iter().filter(|claim| claim.members.contains(&individual));
             memberships.all(|claim| claim.met_by(row)) && self.links_met(individual, row, individual, row)
         };
         let seats_of = |individual| survivors.iter().filter(move |(_, row)| alone(individual, row)).map(|(&c, _)| c);
