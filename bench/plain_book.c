@@ -44,7 +44,8 @@ int count_candidates(const book *k) {
 int count_individuals(const book *k) {
     int most = 0;
     for (int i = 0; i < k->member_count; i++)
-        if (k->members[4 * i] >= most) most = k->members[4 * i] + 1;
+        for (int j = most; j < MOST_INDIVIDUALS; j++)
+            if (is_about(k->members + 4 * i, j)) most = j + 1;
     for (int i = 0; i < k->link_count; i++) {
         if (k->links[4 * i + 1] >= most) most = k->links[4 * i + 1] + 1;
         if (k->links[4 * i + 2] >= most) most = k->links[4 * i + 2] + 1;

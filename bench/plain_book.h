@@ -19,6 +19,12 @@ book sections(const uint8_t *bytes);
 // Whether the terms of role s bind a link of role r.
 static inline bool binds(const uint8_t upward[ROLES], int s, int r) { return upward[r] >> s & 1; }
 
+// Whether a membership claim is about individual j: by the senses 0 and 1 about one individual, by 2 and 3 about a set, bit j for j.
+static inline bool is_about(const uint8_t *member, int j) { return member[2] < 2 ? member[0] == j : member[0] >> j & 1; }
+
+// Whether a grade is as a membership claim says: "at least" by the senses 0 and 2, "at most" by 1 and 3.
+static inline bool is_as_claimed(const uint8_t *member, int grade) { return member[2] % 2 == 0 ? grade >= member[3] : grade <= member[3]; }
+
 // (N + 1) to the number of places, or 0 if that is more than the tables hold.
 int count_candidates(const book *k);
 

@@ -48,9 +48,7 @@ static bool met(int steps, const constraint *t, const uint8_t *source, const uin
 static bool meets_members(const book *k, int j, const uint8_t *row) {
     for (int i = 0; i < k->member_count; i++) {
         const uint8_t *m = k->members + 4 * i;
-        if (m[0] != j) continue;
-        int g = row[m[1]];
-        if (m[2] == 0 ? g < m[3] : g > m[3]) return false;
+        if (is_about(m, j) && !is_as_claimed(m, row[m[1]])) return false;
     }
     return true;
 }
