@@ -4,7 +4,7 @@
 use std::error::Error;
 use std::process::ExitCode;
 use std::slice::Chunks;
-use zegbiko::{work_out, AT_LEAST, GRID};
+use zegbiko::{work_out, AT_LEAST, EACH_AT_LEAST, GRID};
 
 fn word(bytes: &[u8], at: usize) -> usize {
     usize::from(bytes[at]) * 256 + usize::from(bytes[at + 1])
@@ -44,10 +44,15 @@ fn broken(book: &[u8], sheet: &[u8]) -> Result<Vec<String>, zegbiko::Refusal> {
         }
     }
     for (number, claim) in records(book, 10, 4).enumerate() {
-        let (is, claimed) = (grade_at(element_of(claim[0]), claim[1]), claim[3]);
-        let (met, sense) = if claim[2] == AT_LEAST { (is >= claimed, "at least") } else { (is <= claimed, "at most") };
-        if !met {
-            lines.push(format!("membership claim {number}: {is}, claimed {sense} {claimed}"));
+        let (first, term, sense, claimed) = (claim[0], claim[1], claim[2], claim[3]);
+        let (set, at_least) = (sense >= EACH_AT_LEAST, [AT_LEAST, EACH_AT_LEAST].contains(&sense));
+        for i in (0..8).filter(|&i| if set { first >> i & 1 == 1 } else { first == i }) {
+            let is = grade_at(element_of(i), term);
+            let (met, sense) = if at_least { (is >= claimed, "at least") } else { (is <= claimed, "at most") };
+            let member = if set { format!(" at individual {i}") } else { String::new() };
+            if !met {
+                lines.push(format!("membership claim {number}{member}: {is}, claimed {sense} {claimed}"));
+            }
         }
     }
     for (number, claim) in records(book, 14, 4).enumerate() {
