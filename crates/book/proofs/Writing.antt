@@ -48,8 +48,8 @@ first-written : (k x : ℕ) → x < 256 → firstByte k (membersOf k x) ≡ x
 first-written k x h = go (decLt k 2)
   where
     go : Dec (k < 2) → firstByte k (membersOf k x) ≡ x
-    go (yes l) = rw (members-one k x l) (if-pos (decLt k 2) l x (byteOf (x ∷ [])))
-    go (no n) = rw (members-set k x n) (if-neg (decLt k 2) n (getD (bitsOf x) 0 0) (byteOf (bitsOf x)) ∙ byte-of-bits x h)
+    go (yes l) = rw (members-one k x l) (if-pos (decLt k 2) l _ _)
+    go (no n) = rw (members-set k x n) (if-neg (decLt k 2) n _ _ ∙ byte-of-bits x h)
 
 memberships-written : (s : List ℕ) (n : ℕ) → Bytes s → length s ≡ 4 * n
     → (flatMap (λ r. r) (zipWith membershipBytesOf (sensesIn s) (membershipsOf s)) ≡ s) × (length (membershipsOf s) ≡ n)

@@ -66,16 +66,8 @@ claim-written : (x t k g : ℕ) (rest : List ℕ) → recordsOf (claimWritten x 
 claim-written x t k g rest = go (decLt k 2)
   where
     go : Dec (k < 2) → recordsOf (claimWritten x t k g ++ rest) ≡ recordWritten (recordOf x t k g) ++ recordsOf rest
-    go (yes l) =
-        rw (
-          if-pos (decLt k 2) l (x ∷ t ∷ k ∷ g ∷ []) (flatMap (λ j. j ∷ t ∷ (k - 2) ∷ g ∷ []) (bitsOf x)),
-          if-pos (decLt k 2) l (recordOf x t k g ∷ []) (map (λ j. recordOf j t (k - 2) g) (bitsOf x)),
-        ) (records-cons x t k g rest)
-    go (no n) =
-        rw (
-          if-neg (decLt k 2) n (x ∷ t ∷ k ∷ g ∷ []) (flatMap (λ j. j ∷ t ∷ (k - 2) ∷ g ∷ []) (bitsOf x)),
-          if-neg (decLt k 2) n (recordOf x t k g ∷ []) (map (λ j. recordOf j t (k - 2) g) (bitsOf x)),
-        ) (records-singles t (k - 2) g (bitsOf x) rest)
+    go (yes l) = rw (if-pos (decLt k 2) l, if-pos (decLt k 2) l) (records-cons x t k g rest)
+    go (no n) = rw (if-neg (decLt k 2) n, if-neg (decLt k 2) n) (records-singles t (k - 2) g (bitsOf x) rest)
 
 records-written : (s : List ℕ) → recordsOf (writtenOut s) ≡ flatMap recordWritten (recordsOf s)
 unfolding writtenOut flatMap recordsOf table
