@@ -195,9 +195,23 @@ fn one_individual_on_four_steps() {
     }
 }
 
+/// Every N, with every number of places that 64 terms can have: one name, and "some" terms over it.
+#[test]
+fn as_many_candidates_as_the_power() {
+    for steps in 1..=8 {
+        for places in 0..=64 {
+            let mut book = Draft::new(steps);
+            book.terms = (0..places).map(|term| if term == 0 { [NAME, 0, 0] } else { [SOME, 0, 0] }).collect();
+            let power = (u64::from(steps) + 1).checked_pow(places).filter(|&power| power <= 16384);
+            let expected = power.map_or([10, 0], |power| [0, power as usize]);
+            answers(&book, &[], Call::Count, expected, &[]);
+        }
+    }
+}
+
 #[test]
 fn at_most_16384_candidates() {
-    for (steps, most) in [(1, 14), (8, 4)] {
+    for (steps, most) in [(1, 14), (2, 8), (3, 7), (4, 6), (5, 5), (6, 4), (7, 4), (8, 4)] {
         let mut book = Draft::new(steps);
         book.terms = (0..most).map(|name| [NAME, name, 0]).collect();
         outcome(&book, 1);
