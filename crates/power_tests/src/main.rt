@@ -21,17 +21,15 @@ fn quotient(x: u64, steps: u8, places: usize) -> u64 {
     left
 }
 
-// Is a number the power: divided once for each place, and never with a remainder, it comes to 1?
+// Is a number the power: this goes into it once, and not into the number before?
 fn is_power(x: u64, steps: u8, places: usize) -> bool {
-    let grades = steps as u64 + 1;
-    let mut left = x;
-    for i in 0..places {
-        if left % grades != 0 {
-            return false;
-        }
-        left /= grades;
+    if x == 0 {
+        return false;
     }
-    left == 1
+    if quotient(x, steps, places) != 1 {
+        return false;
+    }
+    quotient(x - 1, steps, places) == 0
 }
 
 // Is an answer right: the power itself where it goes into 16384, and "more" where it does not?

@@ -23,9 +23,9 @@ power-first b = pow-suc b 0 ∙ ap (λ (p : ℕ). p * b) (pow-zero b) ∙ one-mu
 pub power-more : (b k p : ℕ) → p ≡ b ^ k → p * b ≡ b ^ (k + 1)
 power-more b k p e = ap (λ (q : ℕ). q * b) e ∙ sym (pow-suc b k) ∙ ap (λ (i : ℕ). b ^ i) (sym (add-one k))
 
--- what has passed the limit stays past it
-pub power-stays : (b i k : ℕ) → 1 ≤ b → i ≤ k → 16384 < b ^ i → 16384 < b ^ k
-power-stays b i k h g p = omega (arith, pow-le-pow-right {n = b} (omega arith) g)
+-- what has passed a limit stays past it
+pub power-stays : (m b i k : ℕ) → 1 ≤ b → i ≤ k → m < b ^ i → m < b ^ k
+power-stays m b i k h g p = omega (arith, pow-le-pow-right {n = b} (omega arith) g)
 
 -- 2 ^ 15 is 32768, so from 15 places on no power of 2 or more is within the limit
 pub power-few : (b k : ℕ) → 2 ≤ b → b ^ k ≤ 16384 → k < 15

@@ -42,7 +42,7 @@ returns-3 c =
     let l = c .before .before .loop in
     let base = c .before .before .before .before .before .args .steps + 1 in
     let past : 16384 < base ^ (l .i + 1) = omega (arith, power-more base (l .i) (l .power) (l .inv .1)) in
-    sym (bounded-more _ (power-stays base (l .i + 1) _ (omega arith) (omega arith) past))
+    sym (bounded-more _ (power-stays _ base (l .i + 1) _ (omega arith) (omega arith) past))
 
 add-i : tie.Need-add-i Inv-loop μ-loop
 add-i c = search needs
