@@ -1,20 +1,20 @@
 -- Laws of opening: which checks that were made give which answer, in their order.
 -- Assumes nothing.
-use mathlib.Core.Path.{_≡_, refl, ap, subst, _∙_}
-use mathlib.Core.Option.{Option, none, some}
+use mathlib.Core.Path.{_≡_, refl, subst, _∙_}
+use mathlib.Core.Option.{none, some}
 use mathlib.Core.List.{List}
 use Prim.Native.Nat.{ℕ, _≤_}
 use native.Mathlib.Omega.{arith}
 use Rattle.chain.specs.Questions.{firstNo}
 use Rattle.chain.proofs.Questions.{first-empty, first-yes, first-no, first-none}
+use Rattle.chain.proofs.Answers.{answer-value, answer-refused, answer-number, answer-no, answer-yes, answer-alike}
 use Rattle.sections.specs.Terms.{TermsRight}
 use Rattle.claims.specs.Rules.{RulesRight}
 use Rattle.claims.specs.Pairs.{PairsRight}
 use Rattle.claims.specs.Claims.{MembershipsRight, LinksRight}
 use Rattle.layout.specs.Layout.{steps, sectionsOf, LengthRight, EditionRight, StepsRight, CountsRight, LaidOut, InOrder, termBytes, ruleBytes, membershipBytes, linkBytes, pairBytes, termsIn}
-use Rattle.book.specs.Opening.{bodyQuestions, bookQuestions, Accepts, Right, opened, openedOf, openedNumber}
+use Rattle.book.specs.Opening.{bodyQuestions, bookQuestions, Accepts, Right, openedBy, openedOf, openedNumber}
 use Rattle.layout.specs.declared.Sections.{Sections}
-use Rattle.book.specs.declared.Opened.{Opened}
 use Rattle.book.specs.declared.Opened.the-variants.{Refused, Accepted}
 
 -- ---- the bodies
@@ -35,53 +35,54 @@ module _ (b : List ℕ) (s : Sections) where
   abbrev Pairs : Type 0
   Pairs = PairsRight (pairBytes b s)
 
-  pub body-6 : ¬ Terms → opened s (firstNo (bodyQuestions b s)) ≡ Refused 6
-  body-6 n = ap (opened s) (first-no _ _ _ n)
+  pub body-6 : ¬ Terms → openedBy s (bodyQuestions b s) ≡ Refused 6
+  body-6 n = answer-refused Refused _ (bodyQuestions b s) _ (first-no _ _ _ n)
 
-  pub body-7 : Terms → ¬ Rules → opened s (firstNo (bodyQuestions b s)) ≡ Refused 7
-  body-7 t n = ap (opened s) (first-yes _ _ _ t ∙ first-no _ _ _ n)
+  pub body-7 : Terms → ¬ Rules → openedBy s (bodyQuestions b s) ≡ Refused 7
+  body-7 t n = answer-refused Refused _ (bodyQuestions b s) _ (first-yes _ _ _ t ∙ first-no _ _ _ n)
 
-  pub body-8 : Terms → Rules → ¬ Memberships → opened s (firstNo (bodyQuestions b s)) ≡ Refused 8
-  body-8 t r n = ap (opened s) (first-yes _ _ _ t ∙ first-yes _ _ _ r ∙ first-no _ _ _ n)
+  pub body-8 : Terms → Rules → ¬ Memberships → openedBy s (bodyQuestions b s) ≡ Refused 8
+  body-8 t r n = answer-refused Refused _ (bodyQuestions b s) _ (first-yes _ _ _ t ∙ first-yes _ _ _ r ∙ first-no _ _ _ n)
 
-  pub body-9 : Terms → Rules → Memberships → ¬ Links → opened s (firstNo (bodyQuestions b s)) ≡ Refused 9
-  body-9 t r m n = ap (opened s) (first-yes _ _ _ t ∙ first-yes _ _ _ r ∙ first-yes _ _ _ m ∙ first-no _ _ _ n)
+  pub body-9 : Terms → Rules → Memberships → ¬ Links → openedBy s (bodyQuestions b s) ≡ Refused 9
+  body-9 t r m n = answer-refused Refused _ (bodyQuestions b s) _ (first-yes _ _ _ t ∙ first-yes _ _ _ r ∙ first-yes _ _ _ m ∙ first-no _ _ _ n)
 
-  pub body-22 : Terms → Rules → Memberships → Links → ¬ Pairs → opened s (firstNo (bodyQuestions b s)) ≡ Refused 22
-  body-22 t r m l n = ap (opened s) (first-yes _ _ _ t ∙ first-yes _ _ _ r ∙ first-yes _ _ _ m ∙ first-yes _ _ _ l ∙ first-no _ _ _ n)
+  pub body-22 : Terms → Rules → Memberships → Links → ¬ Pairs → openedBy s (bodyQuestions b s) ≡ Refused 22
+  body-22 t r m l n = answer-refused Refused _ (bodyQuestions b s) _ (first-yes _ _ _ t ∙ first-yes _ _ _ r ∙ first-yes _ _ _ m ∙ first-yes _ _ _ l ∙ first-no _ _ _ n)
 
-  pub body-none : Terms → Rules → Memberships → Links → Pairs → opened s (firstNo (bodyQuestions b s)) ≡ Accepted s
+  pub body-none : Terms → Rules → Memberships → Links → Pairs → openedBy s (bodyQuestions b s) ≡ Accepted s
   body-none t r m l p =
-      ap (opened s) (first-yes _ _ _ t ∙ first-yes _ _ _ r ∙ first-yes _ _ _ m ∙ first-yes _ _ _ l ∙ first-yes _ _ _ p ∙ first-empty)
+      answer-value Refused _ (bodyQuestions b s) (first-yes _ _ _ t ∙ first-yes _ _ _ r ∙ first-yes _ _ _ m ∙ first-yes _ _ _ l ∙ first-yes _ _ _ p ∙ first-empty)
 
 -- ---- the head, and then the bodies
 
 module _ (b : List ℕ) where
   pub head-1 : ¬ LengthRight b → openedOf b ≡ Refused 1
   unfolding openedOf
-  head-1 n = ap (opened (sectionsOf b)) (first-no _ _ _ n)
+  head-1 n = answer-refused Refused _ (bookQuestions b) _ (first-no _ _ _ n)
 
   pub head-2 : LengthRight b → ¬ EditionRight b → openedOf b ≡ Refused 2
   unfolding openedOf
-  head-2 l n = ap (opened (sectionsOf b)) (first-yes _ _ _ l ∙ first-no _ _ _ n)
+  head-2 l n = answer-refused Refused _ (bookQuestions b) _ (first-yes _ _ _ l ∙ first-no _ _ _ n)
 
   pub head-3 : LengthRight b → EditionRight b → ¬ StepsRight b → openedOf b ≡ Refused 3
   unfolding openedOf
-  head-3 l e n = ap (opened (sectionsOf b)) (first-yes _ _ _ l ∙ first-yes _ _ _ e ∙ first-no _ _ _ n)
+  head-3 l e n = answer-refused Refused _ (bookQuestions b) _ (first-yes _ _ _ l ∙ first-yes _ _ _ e ∙ first-no _ _ _ n)
 
   pub head-4 : LengthRight b → EditionRight b → StepsRight b → ¬ CountsRight b → openedOf b ≡ Refused 4
   unfolding openedOf
-  head-4 l e p n = ap (opened (sectionsOf b)) (first-yes _ _ _ l ∙ first-yes _ _ _ e ∙ first-yes _ _ _ p ∙ first-no _ _ _ n)
+  head-4 l e p n = answer-refused Refused _ (bookQuestions b) _ (first-yes _ _ _ l ∙ first-yes _ _ _ e ∙ first-yes _ _ _ p ∙ first-no _ _ _ n)
 
   pub head-5 : LengthRight b → EditionRight b → StepsRight b → CountsRight b → ¬ LaidOut b (sectionsOf b) → openedOf b ≡ Refused 5
   unfolding openedOf
-  head-5 l e p k n = ap (opened (sectionsOf b)) (first-yes _ _ _ l ∙ first-yes _ _ _ e ∙ first-yes _ _ _ p ∙ first-yes _ _ _ k ∙ first-no _ _ _ n)
+  head-5 l e p k n = answer-refused Refused _ (bookQuestions b) _ (first-yes _ _ _ l ∙ first-yes _ _ _ e ∙ first-yes _ _ _ p ∙ first-yes _ _ _ k ∙ first-no _ _ _ n)
 
   pub head-none : LengthRight b → EditionRight b → StepsRight b → CountsRight b → LaidOut b (sectionsOf b)
-      → openedOf b ≡ opened (sectionsOf b) (firstNo (bodyQuestions b (sectionsOf b)))
+      → openedOf b ≡ openedBy (sectionsOf b) (bodyQuestions b (sectionsOf b))
   unfolding openedOf
   head-none l e p k o =
-      ap (opened (sectionsOf b)) (first-yes _ _ _ l ∙ first-yes _ _ _ e ∙ first-yes _ _ _ p ∙ first-yes _ _ _ k ∙ first-yes _ _ _ o)
+      answer-alike Refused _ _ (bookQuestions b) (bodyQuestions b (sectionsOf b))
+      (first-yes _ _ _ l ∙ first-yes _ _ _ e ∙ first-yes _ _ _ p ∙ first-yes _ _ _ k ∙ first-yes _ _ _ o) (λ _. refl)
 
   -- where the layout is right, the sections follow one another up to the end
   pub sections-ordered : LaidOut b (sectionsOf b) → InOrder b (sectionsOf b)
@@ -126,21 +127,22 @@ module _ (b : List ℕ) where
         pairs-right = q22 .0;
       }
 
-  pub opened-accepted : (s : Sections) → openedOf b ≡ Accepted s → Right b s
+  -- ---- the answer's number is the first no
+
+  pub openedNumber-is : openedNumber (openedOf b) ≡ firstNo (bookQuestions b)
   unfolding openedOf
-  opened-accepted s = go (firstNo (bookQuestions b)) refl
-    where
-      go : (o : Option ℕ) → firstNo (bookQuestions b) ≡ o → opened (sectionsOf b) o ≡ Accepted s → Right b s
-      go none e h = let f : sectionsOf b ≡ s = cc in subst (Right b) f (accepts-right (accepts-is e))
-      go (some n) e h = let z : _≡_ {A = ℕ} 0 1 = cc in absurd (omega arith)
+  openedNumber-is = answer-number Refused _ (bookQuestions b) openedNumber (λ n. refl) refl
 
   pub opened-refused : (n : ℕ) → openedOf b ≡ Refused n → firstNo (bookQuestions b) ≡ some n
   unfolding openedOf
-  opened-refused n = go (firstNo (bookQuestions b)) refl
-    where
-      go : (o : Option ℕ) → firstNo (bookQuestions b) ≡ o → opened (sectionsOf b) o ≡ Refused n → firstNo (bookQuestions b) ≡ some n
-      go none e h = let z : _≡_ {A = ℕ} 0 1 = cc in absurd (omega arith)
-      go (some m) e h = let f : m ≡ n = cc in e ∙ ap {B = Option ℕ} some f
+  opened-refused = answer-no Refused _ (bookQuestions b) openedNumber (λ n. refl) refl
+
+  pub opened-accepted : (s : Sections) → openedOf b ≡ Accepted s → Right b s
+  unfolding openedOf
+  opened-accepted s e =
+      let u = answer-yes Refused _ (bookQuestions b) openedNumber (λ n. refl) refl (Accepted s) refl e in
+      let f : sectionsOf b ≡ s = cc in
+      subst (Right b) f (accepts-right (accepts-is (u .0)))
 
 -- ---- what later calls take from an accepted book
 
@@ -160,17 +162,3 @@ module _ (b : List ℕ) (s : Sections) (ok : Right b s) where
       ∙ subst (λ (t : Sections). firstNo (bodyQuestions b t) ≡ none) e
       (first-yes _ _ _ (ok .terms-right) ∙ first-yes _ _ _ (ok .rules-right) ∙ first-yes _ _ _ (ok .memberships-right) ∙ first-yes _ _ _ (ok .links-right)
       ∙ first-yes _ _ _ (ok .pairs-right) ∙ first-empty)
-
--- ---- the answer's number is the first no
-
-pub openedNumber-is : (b : List ℕ) → openedNumber (openedOf b) ≡ firstNo (bookQuestions b)
-unfolding openedOf
-openedNumber-is b = go (firstNo (bookQuestions b))
-  where
-    go : (o : Option ℕ) → openedNumber (opened (sectionsOf b) o) ≡ o
-    go none = refl
-    go (some n) = refl
-
--- what `open` promises, from its equation
-pub opened-answers : (b : List ℕ) (r : Opened) → r ≡ openedOf b → (r ≡ openedOf b) × (openedNumber r ≡ firstNo (bookQuestions b))
-opened-answers b r e = (e, ap openedNumber e ∙ openedNumber-is b)

@@ -6,6 +6,7 @@ use mathlib.Core.Option.{Option, none, some}
 use mathlib.Core.List.{List, [], _∷_}
 use Prim.Native.Nat.{ℕ}
 use Rattle.chain.specs.Questions.{Question, ask, firstNo}
+use Rattle.chain.specs.Answers.{answer}
 use Rattle.sections.specs.Terms.{TermsRight, termsRight?}
 use Rattle.claims.specs.Rules.{RulesRight, rulesRight?}
 use Rattle.claims.specs.Pairs.{PairsRight, pairsRight?}
@@ -55,13 +56,12 @@ pub record Right (b : List ℕ) (s : Sections) : Type 0 where
 
 -- ---- opening
 
--- the answer, by the first no
-abbrev pub opened : Sections → Option ℕ → Opened
-opened s none = Accepted s
-opened s (some n) = Refused n
+-- the sections s, where none of the questions says no
+abbrev pub openedBy : Sections → List Question → Opened
+openedBy s = answer Refused (Accepted s)
 
 unfoldable pub openedOf : List ℕ → Opened
-openedOf b = opened (sectionsOf b) (firstNo (bookQuestions b))
+openedOf b = openedBy (sectionsOf b) (bookQuestions b)
 
 -- the document's number for each answer
 abbrev pub openedNumber : Opened → Option ℕ

@@ -6,7 +6,7 @@ ghost use Rattle.sections.specs.Terms.{termsOf};
 ghost use Rattle.gradings.specs.Gradings.{grading};
 ghost use Rattle.layout.specs.Layout.{InOrder, termBytes};
 ghost use Rattle.book.specs.Reading.{bookOf, countsOf};
-ghost use Rattle.book.specs.Opening.{bodyQuestions, bookQuestions, Right, opened, openedOf, openedNumber};
+ghost use Rattle.book.specs.Opening.{bodyQuestions, bookQuestions, Right, openedBy, openedOf, openedNumber};
 use gradings::Logic;
 use layout::Sections;
 
@@ -28,7 +28,7 @@ pub enum Opened {
 // Each body goes to its own checker.
 fn open_bodies(b: &[u8], s: Sections) -> Opened
     requires { ⌜ InOrder (now b) s ⌝ }
-    ensures { λ r. ⌜ r ≡ opened s (firstNo (bodyQuestions (now (b .entry)) s)) ⌝ }
+    ensures { λ r. ⌜ r ≡ openedBy s (bodyQuestions (now (b .entry)) s) ⌝ }
 {
     let count = layout::count_terms(s);
     if !sections::terms_right(layout::terms_in(b, s)) {

@@ -1,16 +1,15 @@
 -- Accepted books with the same terms, which count names, roles and individuals alike: of every sheet they ask the same questions, and leave the same
 -- grid; and where interpretations meet the one exactly when they meet the other, so do sheets.
 -- Assumes nothing.
-use mathlib.Core.Path.{_≡_, refl, sym, ap, _∙_}
+use mathlib.Core.Path.{_≡_, sym, ap, _∙_}
 use mathlib.Core.Logic.{_↔_, Iff·trans, Iff·symm}
-use mathlib.Core.Option.{Option, none, some}
 use mathlib.Core.List.{List, [], _∷_, _++_}
 use Prim.Native.Nat.{ℕ, _*_}
 use native.Mathlib.Decide.{decLe}
-use native.Mathlib.Omega.{arith}
 use lib.ListN.{length, drop}
 use Rattle.chain.specs.Questions.{Question, ask, firstNo}
 use Rattle.chain.proofs.Questions.{first-none-append}
+use Rattle.chain.proofs.Answers.{answer-alike}
 use Rattle.semantics.specs.Interpretations.{Grading, Interpretation}
 use Rattle.semantics.specs.Books.{Book, nameCount, roleCount, individuals}
 use Rattle.semantics.proofs.Claims.{written, written-individuals, written-meets}
@@ -23,8 +22,9 @@ use Rattle.working.proofs.Working.{verdict-says}
 use Rattle.sheets.specs.Layout.{shapeOf}
 use Rattle.sheets.specs.Reading.{sheetOf}
 use Rattle.sheets.specs.Opening.{sheetQuestions}
-use Rattle.checker.specs.Working.{gridSize, workQuestions, worked, workedOf, gridBy, gridAfter}
-use Rattle.checker.specs.declared.Worked.the-variants.{Refused, Says}
+use Rattle.checker.specs.Working.{gridBy, gridSize, workQuestions, workedOf, gridAfter}
+use Rattle.checker.specs.declared.Worked.the-variants.{Says}
+use Rattle.checker.proofs.Working.{worked-met}
 
 -- what the questions of working out go by
 pub record SameCounts (b c : List ℕ) : Type 0 where
@@ -72,24 +72,17 @@ module _ (b c : List ℕ) (ok : Accepts b) (also : Accepts c) (same : SameCounts
       ∙ sym (first-none-append (bookQuestions c) (then (C .grading) (nameCount C) (roleCount C) (individuals C) g) also)
 
   pub grid-alike : (grid : List ℕ) → gridAfter b t grid ≡ gridAfter c t grid
-  unfolding gridAfter gridSize
-  grid-alike grid = ap (λ (o : Option ℕ). gridBy b t o grid) (questions-alike (length grid)) ∙ go (firstNo (workQuestions c t (length grid)))
-    where
-      go : (o : Option ℕ) → gridBy b t o grid ≡ gridBy c t o grid
-      go none = ap (λ (G : Grading). gridOf G (sheetOf t) ++ drop (shapeOf t .elements * length (G .terms)) grid) (same .grading-same)
-      go (some n) = refl
+  unfolding gridBy
+  grid-alike grid =
+      answer-alike (λ _. grid) _ _ (workQuestions b t (length grid)) (workQuestions c t (length grid)) (questions-alike (length grid))
+      (λ _. ap (λ (G : Grading). gridOf G (sheetOf t) ++ drop (sheetOf t .size * length (G .terms)) grid) (same .grading-same))
 
   pub meets-alike : ((I : Interpretation) → (verdictOf (bookOf b) I ≡ Meets) ↔ (verdictOf (bookOf c) I ≡ Meets))
       → (g : ℕ) → (workedOf b t g ≡ Says Meets) ↔ (workedOf c t g ≡ Says Meets)
-  unfolding workedOf
-  meets-alike meet g =
-      let q = questions-alike g in
-      let w = go (firstNo (workQuestions c t g)) in
-      (λ e. w .0 (sym (ap (worked b t) q) ∙ e), λ e. ap (worked b t) q ∙ w .1 e)
+  meets-alike meet g = (
+    λ e. let u = worked-met B I (workQuestions b t g) .0 e in worked-met C I (workQuestions c t g) .1 (sym (questions-alike g) ∙ u .0, meet I .0 (u .1)),
+    λ e. let u = worked-met C I (workQuestions c t g) .0 e in worked-met B I (workQuestions b t g) .1 (questions-alike g ∙ u .0, meet I .1 (u .1)),
+  )
     where
-      go : (o : Option ℕ) → (worked b t o ≡ Says Meets) ↔ (worked c t o ≡ Says Meets)
-      go none = (
-        λ e. let m : verdictOf (bookOf b) (sheetOf t) ≡ Meets = cc in ap Says (meet (sheetOf t) .0 m),
-        λ e. let m : verdictOf (bookOf c) (sheetOf t) ≡ Meets = cc in ap Says (meet (sheetOf t) .1 m),
-      )
-      go (some n) = (λ e. let z : _≡_ {A = ℕ} 0 1 = cc in absurd (omega arith), λ e. let z : _≡_ {A = ℕ} 0 1 = cc in absurd (omega arith))
+      I : Interpretation
+      I = sheetOf t

@@ -76,7 +76,7 @@ module _ (b t grid : List ℕ) (ok : firstNo (workQuestions b t (length grid)) �
   answered v = Iff·trans (to, from) (verdict-says (bookOf b) I v)
     where
       is : workedOf b t (length grid) ≡ Answers (verdictOf (bookOf b) I)
-      is = worked-says b t (length grid) ok
+      is = worked-says (bookOf b) (sheetOf t) _ ok
 
       to : workedOf b t (length grid) ≡ Answers v → verdictOf (bookOf b) I ≡ v
       to e = let z : Answers (verdictOf (bookOf b) I) ≡ Answers v = sym is ∙ e in cc
@@ -85,4 +85,4 @@ module _ (b t grid : List ℕ) (ok : firstNo (workQuestions b t (length grid)) �
       from e = is ∙ ap Answers e
 
 pub work-refused : (b t grid : List ℕ) (n : ℕ) → workedOf b t (length grid) ≡ Refused n → gridAfter b t grid ≡ grid
-work-refused b t grid n e = grid-refused b t grid n (sym (workedNumber-is b t (length grid)) ∙ ap workedNumber e)
+work-refused b t grid n e = grid-refused _ _ _ grid n (sym (workedNumber-is _ _ _) ∙ ap workedNumber e)

@@ -2,17 +2,19 @@
 -- code that works it out.
 -- Assumes nothing.
 use mathlib.Core.Path.{_≡_, refl, sym, ap, ap₂, subst, _∙_}
-use mathlib.Core.Option.{Option, none, some}
+use mathlib.Core.Logic.{_↔_}
+use mathlib.Core.Option.{none, some}
 use mathlib.Core.List.{List, [], _++_}
 use Prim.Native.Nat.{ℕ, _*_, _≤_}
 use native.Mathlib.Nat.{mul-le-mul}
 use native.Mathlib.Decide.{decLe}
 use native.Mathlib.Omega.{arith}
 use lib.ListN.{length, drop}
-use Rattle.chain.specs.Questions.{firstNo}
+use Rattle.chain.specs.Questions.{Question, firstNo}
 use Rattle.chain.proofs.Questions.{first-empty, first-yes, first-no, first-some-append, first-none-append}
+use Rattle.chain.proofs.Answers.{answer-value, answer-refused, answer-number, answer-yes}
 use Rattle.semantics.specs.Interpretations.{Grading, Interpretation}
-use Rattle.semantics.specs.Books.{nameCount, roleCount, individuals}
+use Rattle.semantics.specs.Books.{Book, nameCount, roleCount, individuals}
 use Rattle.sections.specs.Terms.{termsOf}
 use Rattle.gradings.specs.Gradings.{grading}
 use Rattle.gradings.specs.declared.Logic.{Logic}
@@ -26,6 +28,7 @@ use Rattle.book.proofs.Opening.{opened-refused, right-accepts}
 use Rattle.book.proofs.Reading.{right-book, right-few, right-short, right-length, right-counts, right-valid}
 use Rattle.working.specs.Grids.{gridOf}
 use Rattle.working.specs.Working.{verdictOf}
+use Rattle.working.specs.declared.Verdict.the-variants.{Meets}
 use Rattle.sheets.specs.Layout.{EntriesRight, nameBytes, linkBytes as sheetLinks, individualBytes}
 use Rattle.sheets.specs.Reading.{sheetOf}
 use Rattle.sheets.specs.Opening.{sheetOpened}
@@ -40,8 +43,7 @@ use Rattle.grids.proofs.Columns.{rows-grid}
 use Rattle.verdicts.specs.Cells.{verdictIn, Covered}
 use Rattle.verdicts.proofs.Cells.{verdict-in, covered}
 use Rattle.checker.specs.Fitting.{SheetFits, Filled}
-use Rattle.checker.specs.Working.{gridSize, bookSheetQuestions, workQuestions, worked, workedOf, gridBy, gridAfter, workedNumber}
-use Rattle.checker.specs.declared.Worked.{Worked}
+use Rattle.checker.specs.Working.{workedBy, gridBy, gridSize, bookSheetQuestions, workQuestions, gridAfter, workedNumber}
 use Rattle.checker.specs.declared.Worked.the-variants.{Refused, Says}
 
 -- ---- the first no
@@ -69,26 +71,44 @@ module _ (b t : List ℕ) where
           first-none-append (bookQuestions b) _ accepted ∙ first-none-append (bookSheetQuestions b t) _ (right-none t p _ _ _ _ fits)
           ∙ first-yes 16 (decLe (gridSize b t) g) [] h ∙ first-empty
 
-  -- ---- the answer and the grid, by it
+-- ---- the answer and the grid, by it
 
-  pub worked-says : (g : ℕ) → firstNo (workQuestions b t g) ≡ none → workedOf b t g ≡ Says (verdictOf (bookOf b) (sheetOf t))
-  unfolding workedOf
-  worked-says g e = ap (worked b t) e
+module _ (B : Book) (I : Interpretation) (qs : List Question) where
+  pub worked-says : firstNo qs ≡ none → workedBy B I qs ≡ Says (verdictOf B I)
+  unfolding workedBy
+  worked-says = answer-value Refused _ qs
 
-  pub grid-refused : (grid : List ℕ) (n : ℕ) → firstNo (workQuestions b t (length grid)) ≡ some n → gridAfter b t grid ≡ grid
-  unfolding gridAfter
-  grid-refused grid n e = ap (λ (o : Option ℕ). gridBy b t o grid) e
+  -- "meets": no question says no, and that is the verdict
+  pub worked-met : (workedBy B I qs ≡ Says Meets) ↔ ((firstNo qs ≡ none) × (verdictOf B I ≡ Meets))
+  unfolding workedBy
+  worked-met = (
+    λ e. let u = answer-yes Refused _ qs workedNumber (λ n. refl) refl (Says Meets) refl e in (u .0, cc),
+    λ u. answer-value Refused _ qs (u .0) ∙ ap Says (u .1),
+  )
 
-  -- what a refusal answers, and that it keeps the grid
-  pub refused : (grid : List ℕ) (n : ℕ) → firstNo (workQuestions b t (length grid)) ≡ some n
-      → (Refused n ≡ workedOf b t (length grid)) × (grid ≡ gridAfter b t grid)
-  unfolding workedOf
-  refused grid n e = (sym (ap (worked b t) e), sym (grid-refused grid n e))
+  -- the answer's number is the first no
+  pub workedNumber-is : workedNumber (workedBy B I qs) ≡ firstNo qs
+  unfolding workedBy
+  workedNumber-is = answer-number Refused _ qs workedNumber (λ n. refl) refl
 
-  pub grid-worked : (grid : List ℕ) → firstNo (workQuestions b t (length grid)) ≡ none
-      → gridAfter b t grid ≡ gridOf (bookOf b .grading) (sheetOf t) ++ drop (gridSize b t) grid
-  unfolding gridAfter
-  grid-worked grid e = ap (λ (o : Option ℕ). gridBy b t o grid) e
+  module _ (grid : List ℕ) where
+    pub grid-refused : (n : ℕ) → firstNo qs ≡ some n → gridBy B I qs grid ≡ grid
+    unfolding gridBy
+    grid-refused = answer-refused (λ _. grid) _ qs
+
+    -- what a refusal answers, and that it keeps the grid
+    pub refused : (n : ℕ) → firstNo qs ≡ some n → (Refused n ≡ workedBy B I qs) × (grid ≡ gridBy B I qs grid)
+    unfolding workedBy
+    refused n e = (sym (answer-refused Refused _ qs n e), sym (grid-refused n e))
+
+    pub grid-filled : firstNo qs ≡ none → gridBy B I qs grid ≡ gridOf (B .grading) I ++ drop (I .size * length (B .grading .terms)) grid
+    unfolding gridBy
+    grid-filled = answer-value (λ _. grid) _ qs
+
+pub grid-worked : (b t grid : List ℕ) → firstNo (workQuestions b t (length grid)) ≡ none
+    → gridAfter b t grid ≡ gridOf (bookOf b .grading) (sheetOf t) ++ drop (gridSize b t) grid
+unfolding gridSize sheetOf
+grid-worked b t grid e = grid-filled (bookOf b) (sheetOf t) _ grid e
 
 -- ---- a sheet that fits an accepted book
 
@@ -162,17 +182,3 @@ module _ (b t : List ℕ) (s : Sections) (ok : Right b s) (k : Counts) (are : k 
 
   pub sheet-asked : (n : ℕ) → o ≡ Unfit n → firstNo (bookSheetQuestions b t) ≡ some n
   sheet-asked n e = sheet-refused t _ _ _ _ n (sym opened-is ∙ e)
-
--- an answer's number is the first no
-pub workedNumber-is : (b t : List ℕ) (g : ℕ) → workedNumber (workedOf b t g) ≡ firstNo (workQuestions b t g)
-unfolding workedOf
-workedNumber-is b t g = go (firstNo (workQuestions b t g))
-  where
-    go : (o : Option ℕ) → workedNumber (worked b t o) ≡ o
-    go none = refl
-    go (some n) = refl
-
--- what `work_out` promises, from its equation
-pub worked-answers : (b t : List ℕ) (g : ℕ) (r : Worked) {Q : Type 0} → (r ≡ workedOf b t g) × Q
-    → (r ≡ workedOf b t g) × ((workedNumber r ≡ firstNo (workQuestions b t g)) × Q)
-worked-answers b t g r w = (w .0, (ap workedNumber (w .0) ∙ workedNumber-is b t g, w .1))

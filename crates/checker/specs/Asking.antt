@@ -6,7 +6,8 @@ use Prim.Native.Nat.{ℕ}
 use native.Mathlib.Decide.{decLt}
 use lib.ListN.{length}
 use Rattle.chain.specs.Decisions.{dec-and}
-use Rattle.chain.specs.Questions.{Question, ask, firstNo}
+use Rattle.chain.specs.Questions.{Question, ask}
+use Rattle.chain.specs.Answers.{answer}
 use Rattle.types.specs.Candidates.{candidates, gradeIn}
 use Rattle.types.specs.Links.{link}
 use Rattle.book.specs.Reading.{bookOf}
@@ -26,19 +27,18 @@ module _ (b : List ℕ) where
       candidateQuestions b
       ++ (ask 20 (dec-and (decLt c (candidates (bookOf b .grading))) (decLt d (candidates (bookOf b .grading)))) ∷ ask 21 (decLt r 8) ∷ [])
 
--- the grade, where no question says no
-abbrev pub answered : ℕ → Option ℕ → Answer
-answered g none = Grade g
-answered g (some n) = Refused n
+-- a grade, after questions
+unfoldable pub gradedBy : ℕ → List Question → Answer
+gradedBy g = answer Refused (Grade g)
 
 module _ (b : List ℕ) where
   -- what asking for the grade of term i in candidate c answers
-  unfoldable pub gradeAnswer : (c i : ℕ) → Answer
-  gradeAnswer c i = answered (gradeIn (bookOf b .grading) c i) (firstNo (gradeQuestions b c i))
+  abbrev pub gradeAnswer : (c i : ℕ) → Answer
+  gradeAnswer c i = gradedBy (gradeIn (bookOf b .grading) c i) (gradeQuestions b c i)
 
   -- what asking for the link from candidate c to candidate d for the role r answers
-  unfoldable pub linkAnswer : (r c d : ℕ) → Answer
-  linkAnswer r c d = answered (link (bookOf b .grading) r c d) (firstNo (linkQuestions b r c d))
+  abbrev pub linkAnswer : (r c d : ℕ) → Answer
+  linkAnswer r c d = gradedBy (link (bookOf b .grading) r c d) (linkQuestions b r c d)
 
 -- the document's number for each answer
 abbrev pub answerNumber : Answer → Option ℕ

@@ -5,8 +5,10 @@ use mathlib.Core.List.{List, [], _∷_, _++_}
 use Prim.Native.Nat.{ℕ, _*_}
 use native.Mathlib.Decide.{decLe}
 use lib.ListN.{length, drop}
-use Rattle.chain.specs.Questions.{Question, ask, firstNo}
-use Rattle.semantics.specs.Books.{nameCount, roleCount, individuals}
+use Rattle.chain.specs.Questions.{Question, ask}
+use Rattle.chain.specs.Answers.{answer, left}
+use Rattle.semantics.specs.Interpretations.{Interpretation}
+use Rattle.semantics.specs.Books.{Book, nameCount, roleCount, individuals}
 use Rattle.book.specs.Reading.{bookOf}
 use Rattle.book.specs.Opening.{bookQuestions}
 use Rattle.working.specs.Grids.{gridOf}
@@ -17,7 +19,19 @@ use Rattle.sheets.specs.Opening.{sheetQuestions}
 use Rattle.checker.specs.declared.Worked.{Worked}
 use Rattle.checker.specs.declared.Worked.the-variants.{Refused, Says}
 
--- of the book's bytes b and the sheet's bytes t
+-- ---- of a book and a sheet that were read, after questions
+
+module _ (B : Book) (I : Interpretation) (qs : List Question) where
+  -- the verdict
+  unfoldable pub workedBy : Worked
+  workedBy = answer Refused (Says (verdictOf B I)) qs
+
+  -- "The grid then holds each element's row of term grades, and bytes past it are kept"; a refusal changes nothing
+  unfoldable pub gridBy : List ℕ → List ℕ
+  gridBy grid = left grid (gridOf (B .grading) I ++ drop (I .size * length (B .grading .terms)) grid) qs
+
+-- ---- of the book's bytes b and the sheet's bytes t
+
 module _ (b t : List ℕ) where
   -- "n times the term count"
   unfoldable pub gridSize : ℕ
@@ -32,21 +46,11 @@ module _ (b t : List ℕ) where
   abbrev pub workQuestions : (g : ℕ) → List Question
   workQuestions g = bookQuestions b ++ (bookSheetQuestions ++ (ask 16 (decLe gridSize g) ∷ []))
 
-  -- the verdict, where no question says no
-  abbrev pub worked : Option ℕ → Worked
-  worked none = Says (verdictOf (bookOf b) (sheetOf t))
-  worked (some n) = Refused n
+  abbrev pub workedOf : (g : ℕ) → Worked
+  workedOf g = workedBy (bookOf b) (sheetOf t) (workQuestions g)
 
-  unfoldable pub workedOf : (g : ℕ) → Worked
-  workedOf g = worked (firstNo (workQuestions g))
-
-  -- "The grid then holds each element's row of term grades, and bytes past it are kept"; a refusal changes nothing
-  abbrev pub gridBy : Option ℕ → List ℕ → List ℕ
-  gridBy none grid = gridOf (bookOf b .grading) (sheetOf t) ++ drop gridSize grid
-  gridBy (some n) grid = grid
-
-  unfoldable pub gridAfter : List ℕ → List ℕ
-  gridAfter grid = gridBy (firstNo (workQuestions (length grid))) grid
+  abbrev pub gridAfter : List ℕ → List ℕ
+  gridAfter grid = gridBy (bookOf b) (sheetOf t) (workQuestions (length grid)) grid
 
 -- the document's number for each answer
 abbrev pub workedNumber : Worked → Option ℕ

@@ -1,24 +1,28 @@
 -- Accepted books with the same candidates, survivors, outcome and placement are decided alike: the same answer, the same marks and the same
 -- placement. Books that read alike are such, and so are a book and the one with its sets written out.
 -- Assumes nothing.
-use mathlib.Core.Path.{_≡_, refl, sym, ap, _∙_}
-use mathlib.Core.Option.{Option, none, some}
+use mathlib.Core.Path.{_≡_, sym, ap, _∙_}
+use mathlib.Core.Option.{Option}
 use mathlib.Core.List.{List, [], _∷_}
 use Prim.Native.Nat.{ℕ}
 use native.Mathlib.Decide.{decLe}
 use lib.ListN.{length}
 use Rattle.chain.specs.Questions.{Question, ask, firstNo}
 use Rattle.chain.proofs.Questions.{first-none-append}
+use Rattle.chain.proofs.Answers.{answer-alike}
 use Rattle.semantics.specs.Books.{Book}
 use Rattle.semantics.proofs.Claims.{written}
 use Rattle.types.specs.Candidates.{candidates}
 use Rattle.book.specs.Reading.{bookOf}
 use Rattle.book.specs.Opening.{bookQuestions, Accepts}
 use Rattle.counter.specs.Counting.{fewCandidates?}
-use Rattle.placement.specs.Outcome.{survivorsOf, placement, outcome}
+use Rattle.elimination.specs.Survivors.{survivorsOf}
+use Rattle.placement.specs.Outcome.{placement, outcome}
 use Rattle.placement.proofs.Singles.{written-placement, written-outcome}
+use Rattle.marking.proofs.Marking.{marks-same}
 use Rattle.outcomes.specs.Decided.{placedIn}
-use Rattle.decider.specs.Deciding.{decideQuestions, decided, decisionOf, marksBy, marksAfter, placementBy, placementAfter}
+use Rattle.outcomes.specs.declared.Decision.the-variants.{Refused}
+use Rattle.decider.specs.Deciding.{decisionBy, placementBy, decideQuestions, decisionOf, marksAfter, placementAfter}
 
 pub record SameDecision (B C : Book) : Type 0 where
   pub candidates-same : candidates (B .grading) ≡ candidates (C .grading)
@@ -55,25 +59,16 @@ module _ (b c : List ℕ) (ok : Accepts b) (also : Accepts c) (same : SameDecisi
       then k = ask 10 (decLe k 16384) ∷ ask 11 (decLe k m) ∷ ask 12 (decLe 16 p) ∷ []
 
   pub decided-alike : (m p : ℕ) → decisionOf b m p ≡ decisionOf c m p
-  unfolding decisionOf
-  decided-alike m p = ap (decided b) (questions-alike m p) ∙ go (firstNo (decideQuestions c m p))
-    where
-      go : (o : Option ℕ) → decided b o ≡ decided c o
-      go none = rw (same .outcome-same, same .survivors-same)
-      go (some n) = refl
+  unfolding decisionBy
+  decided-alike m p = answer-alike Refused _ _ (decideQuestions b m p) (decideQuestions c m p) (questions-alike m p) (λ _. rw (same .outcome-same, same .survivors-same))
 
   pub marks-alike : (p : ℕ) (marks : List ℕ) → marksAfter b p marks ≡ marksAfter c p marks
-  unfolding marksAfter
-  marks-alike p marks = ap (λ (o : Option ℕ). marksBy b o marks) (questions-alike (length marks) p) ∙ go (firstNo (decideQuestions c (length marks) p))
-    where
-      go : (o : Option ℕ) → marksBy b o marks ≡ marksBy c o marks
-      go none = rw (same .survivors-same, same .candidates-same)
-      go (some n) = refl
+  marks-alike p marks =
+      marks-same (bookOf b) (bookOf c) (decideQuestions b (length marks) p) (decideQuestions c (length marks) p) (same .candidates-same) (same .survivors-same)
+      (questions-alike (length marks) p) marks
 
   pub placement-alike : (m : ℕ) (buffer : List ℕ) → placementAfter b m buffer ≡ placementAfter c m buffer
-  unfolding placementAfter
-  placement-alike m buffer = ap (λ (o : Option ℕ). placementBy b o buffer) (questions-alike m (length buffer)) ∙ go (firstNo (decideQuestions c m (length buffer)))
-    where
-      go : (o : Option ℕ) → placementBy b o buffer ≡ placementBy c o buffer
-      go none = ap (λ (o : Option (List ℕ)). placedIn o buffer) (same .placement-same)
-      go (some n) = refl
+  unfolding placementBy
+  placement-alike m buffer =
+      answer-alike (λ _. buffer) _ _ (decideQuestions b m (length buffer)) (decideQuestions c m (length buffer)) (questions-alike m (length buffer))
+      (λ _. ap (λ (o : Option (List ℕ)). placedIn o buffer) (same .placement-same))

@@ -5,19 +5,22 @@ use mathlib.Core.Option.{Option, none, some}
 use mathlib.Core.List.{List, [], _∷_}
 use Prim.Native.Nat.{ℕ, _≤_}
 use native.Mathlib.Decide.{decLe}
-use native.Mathlib.Omega.{arith}
 use lib.ListN.{length}
-use Rattle.chain.specs.Questions.{firstNo}
+use Rattle.chain.specs.Questions.{Question, firstNo}
+use Rattle.chain.specs.Answers.{answerBy}
 use Rattle.chain.proofs.Questions.{first-empty, first-yes, first-no, first-none, first-some-append, first-none-append}
+use Rattle.chain.proofs.Answers.{answer-value, answer-refused, answer-number, answer-no, answer-yes}
 use Rattle.semantics.specs.Books.{Book}
 use Rattle.types.specs.Candidates.{candidates}
 use Rattle.book.specs.Reading.{bookOf}
 use Rattle.counter.specs.Counting.{candidateQuestions}
-use Rattle.placement.specs.Outcome.{survivorsOf, placement, outcomeOf, outcome}
-use Rattle.outcomes.specs.Decided.{decision, markedIn, placedIn}
-use Rattle.decider.specs.Deciding.{decideQuestions, decided, decisionOf, marksBy, marksAfter, placementBy, placementAfter, decisionNumber}
+use Rattle.elimination.specs.Survivors.{survivorsOf}
+use Rattle.placement.specs.Outcome.{placement, outcomeOf, outcome}
+use Rattle.marking.specs.Marking.{markedIn, marksBy}
+use Rattle.marking.proofs.Marking.{marks-refused, marks-are}
+use Rattle.outcomes.specs.Decided.{decision, placedIn}
+use Rattle.decider.specs.Deciding.{decisionBy, placementBy, decideQuestions, decisionNumber}
 use Rattle.outcomes.proofs.Decided.{outcome-3-kept}
-use Rattle.outcomes.specs.declared.Decision.{Decision}
 use Rattle.outcomes.specs.declared.Decision.the-variants.{Refused, Decided}
 
 -- ---- the first no
@@ -42,78 +45,49 @@ module _ (b : List ℕ) (m p : ℕ) where
 
 -- ---- the answer and the buffers, by it
 
-module _ (b marks buffer : List ℕ) where
-  abbrev m : ℕ
-  m = length marks
-
-  abbrev p : ℕ
-  p = length buffer
-
+module _ (B : Book) (qs : List Question) where
   -- a refusal changes no buffer
-  pub refused : (n : ℕ) → firstNo (decideQuestions b m p) ≡ some n
-      → (Refused n ≡ decisionOf b m p) × ((marks ≡ marksAfter b p marks) × (buffer ≡ placementAfter b m buffer))
-  unfolding decisionOf marksAfter placementAfter
-  refused n e =
-      (sym (ap (decided b) e), (sym (ap (λ (o : Option ℕ). marksBy b o marks) e), sym (ap (λ (o : Option ℕ). placementBy b o buffer) e)))
+  pub refused : (marks buffer : List ℕ) (n : ℕ) → firstNo qs ≡ some n
+      → (Refused n ≡ decisionBy B qs) × ((marks ≡ marksBy B qs marks) × (buffer ≡ placementBy B qs buffer))
+  unfolding decisionBy placementBy
+  refused marks buffer n e =
+      (sym (answer-refused Refused _ qs n e), (sym (marks-refused B qs marks n e), sym (answer-refused (λ _. buffer) _ qs n e)))
 
-  pub settled : firstNo (decideQuestions b m p) ≡ none
-      → (decision (bookOf b) ≡ decisionOf b m p)
-      × ((markedIn (bookOf b) marks ≡ marksAfter b p marks) × (placedIn (placement (bookOf b)) buffer ≡ placementAfter b m buffer))
-  unfolding decisionOf marksAfter placementAfter
-  settled e =
-      (sym (ap (decided b) e), (sym (ap (λ (o : Option ℕ). marksBy b o marks) e), sym (ap (λ (o : Option ℕ). placementBy b o buffer) e)))
+  pub settled : (marks buffer : List ℕ) → firstNo qs ≡ none
+      → (decision B ≡ decisionBy B qs) × ((markedIn B marks ≡ marksBy B qs marks) × (placedIn (placement B) buffer ≡ placementBy B qs buffer))
+  unfolding decisionBy placementBy
+  settled marks buffer e = (sym (answer-value Refused _ qs e), (sym (marks-are B qs marks e), sym (answer-value (λ _. buffer) _ qs e)))
 
--- and back: what an answer says of the questions
-module _ (b : List ℕ) (m p : ℕ) where
-  pub decision-refused : (n : ℕ) → decisionOf b m p ≡ Refused n → firstNo (decideQuestions b m p) ≡ some n
-  unfolding decisionOf
-  decision-refused n = go (firstNo (decideQuestions b m p)) refl
-    where
-      go : (o : Option ℕ) → firstNo (decideQuestions b m p) ≡ o → decided b o ≡ Refused n → firstNo (decideQuestions b m p) ≡ some n
-      go none e h = let z : _≡_ {A = ℕ} 0 1 = cc in absurd (omega arith)
-      go (some k) e h = let f : k ≡ n = cc in e ∙ ap {B = Option ℕ} some f
+  -- and back: what an answer says of the questions
+  pub decision-refused : (n : ℕ) → decisionBy B qs ≡ Refused n → firstNo qs ≡ some n
+  unfolding decisionBy
+  decision-refused = answer-no Refused _ qs decisionNumber (λ n. refl) refl
 
-  pub decision-decided : (o k : ℕ) → decisionOf b m p ≡ Decided o k
-      → (firstNo (decideQuestions b m p) ≡ none) × (o ≡ outcome (bookOf b)) × (k ≡ length (survivorsOf (bookOf b)))
-  unfolding decisionOf
-  decision-decided o k = go (firstNo (decideQuestions b m p)) refl
-    where
-      go : (a : Option ℕ) → firstNo (decideQuestions b m p) ≡ a → decided b a ≡ Decided o k
-          → (firstNo (decideQuestions b m p) ≡ none) × (o ≡ outcome (bookOf b)) × (k ≡ length (survivorsOf (bookOf b)))
-      go none e h = (e, cc, cc)
-      go (some n) e h = let z : _≡_ {A = ℕ} 0 1 = cc in absurd (omega arith)
+  pub decision-decided : (o k : ℕ) → decisionBy B qs ≡ Decided o k → (firstNo qs ≡ none) × (o ≡ outcome B) × (k ≡ length (survivorsOf B))
+  unfolding decisionBy
+  decision-decided o k e =
+      let u = answer-yes Refused _ qs decisionNumber (λ n. refl) refl (Decided o k) refl e in
+      (u .0, cc, cc)
 
-  -- where none says no there is room for the marks
-  pub decide-room : firstNo (candidateQuestions b) ≡ none → firstNo (decideQuestions b m p) ≡ none → candidates (bookOf b .grading) ≤ m
-  decide-room counted e = first-none 11 (decLe (candidates (bookOf b .grading)) m) _ (sym (first-none-append (candidateQuestions b) _ counted) ∙ e) .0
+  -- the answer's number is the first no
+  pub decisionNumber-is : decisionNumber (decisionBy B qs) ≡ firstNo qs
+  unfolding decisionBy
+  decisionNumber-is = answer-number Refused _ qs decisionNumber (λ n. refl) refl
 
--- the answer's number is the first no
-pub decisionNumber-is : (b : List ℕ) (m p : ℕ) → decisionNumber (decisionOf b m p) ≡ firstNo (decideQuestions b m p)
-unfolding decisionOf
-decisionNumber-is b m p = go (firstNo (decideQuestions b m p))
-  where
-    go : (o : Option ℕ) → decisionNumber (decided b o) ≡ o
-    go none = refl
-    go (some n) = refl
-
--- what `decide` promises, from its equation
-pub decided-answers : (b : List ℕ) (m p : ℕ) (r : Decision) {Q : Type 0} → (r ≡ decisionOf b m p) × Q
-    → (r ≡ decisionOf b m p) × ((decisionNumber r ≡ firstNo (decideQuestions b m p)) × Q)
-decided-answers b m p r w = (w .0, (ap decisionNumber (w .0) ∙ decisionNumber-is b m p, w .1))
+-- where none says no there is room for the marks
+pub decide-room : (b : List ℕ) (m p : ℕ) → firstNo (candidateQuestions b) ≡ none → firstNo (decideQuestions b m p) ≡ none → candidates (bookOf b .grading) ≤ m
+decide-room b m p counted e = first-none 11 (decLe (candidates (bookOf b .grading)) m) _ (sym (first-none-append (candidateQuestions b) _ counted) ∙ e) .0
 
 -- "for outcome 1 only": without it the buffer keeps its contents
-pub kept-without-outcome-1 : (b : List ℕ) (m : ℕ) (buffer : List ℕ) → ¬ (outcome (bookOf b) ≡ 1) → placementAfter b m buffer ≡ buffer
-unfolding placementAfter outcome
-kept-without-outcome-1 b m buffer n = by (firstNo (decideQuestions b m (length buffer)))
+pub kept-without-outcome-1 : (B : Book) (qs : List Question) (buffer : List ℕ) → ¬ (outcome B ≡ 1) → placementBy B qs buffer ≡ buffer
+unfolding placementBy outcome
+kept-without-outcome-1 B qs buffer n = by (firstNo qs)
   where
-    B : Book
-    B = bookOf b
-
     go : (xs : List ℕ) → survivorsOf B ≡ xs → (o : Option (List ℕ)) → placement B ≡ o → ¬ (outcomeOf B xs o ≡ 1) → placedIn (placement B) buffer ≡ buffer
     go [] e o f k = sym (outcome-3-kept B (ap length e) buffer)
     go (x ∷ xs) e none f k = ap (λ (z : Option (List ℕ)). placedIn z buffer) f
     go (x ∷ xs) e (some p) f k = absurd (k refl)
 
-    by : (o : Option ℕ) → placementBy b o buffer ≡ buffer
+    by : (o : Option ℕ) → answerBy (λ _. buffer) (placedIn (placement B) buffer) o ≡ buffer
     by none = go (survivorsOf B) refl (placement B) refl n
     by (some k) = refl

@@ -10,17 +10,30 @@ use native.Mathlib.Decide.{decLe}
 use lib.ListN.{length}
 use Rattle.chain.specs.Lists.{table}
 use Rattle.chain.specs.Questions.{Question, ask, firstNo}
+use Rattle.chain.specs.Answers.{answer, left}
 use Rattle.semantics.specs.Interpretations.{Interpretation}
-use Rattle.semantics.specs.Books.{individuals}
+use Rattle.semantics.specs.Books.{Book, individuals}
 use Rattle.types.specs.Candidates.{candidates}
 use Rattle.book.specs.Reading.{bookOf}
 use Rattle.encoding.specs.Words.{wordAt}
 use Rattle.counter.specs.Counting.{candidateQuestions}
 use Rattle.elimination.specs.Marks.{marked}
 use Rattle.placement.specs.Outcome.{placement, placedAmong}
-use Rattle.outcomes.specs.Decided.{decision, markedIn, placedIn}
+use Rattle.marking.specs.Marking.{marksBy}
+use Rattle.outcomes.specs.Decided.{decision, placedIn}
 use Rattle.outcomes.specs.declared.Decision.{Decision}
 use Rattle.outcomes.specs.declared.Decision.the-variants.{Refused, Decided}
+
+-- ---- of a book that was read, after questions
+
+module _ (B : Book) (qs : List Question) where
+  -- the decision
+  unfoldable pub decisionBy : Decision
+  decisionBy = answer Refused (decision B) qs
+
+  -- the placement, "for outcome 1 only" (`kept-without-outcome-1` of proofs/Deciding)
+  unfoldable pub placementBy : List ℕ → List ℕ
+  placementBy buffer = left buffer (placedIn (placement B) buffer) qs
 
 -- ---- of a book's bytes
 
@@ -29,29 +42,14 @@ module _ (b : List ℕ) where
   abbrev pub decideQuestions : (m p : ℕ) → List Question
   decideQuestions m p = candidateQuestions b ++ (ask 11 (decLe (candidates (bookOf b .grading)) m) ∷ ask 12 (decLe 16 p) ∷ [])
 
-  -- the decision, where no question says no
-  abbrev pub decided : Option ℕ → Decision
-  decided none = decision (bookOf b)
-  decided (some n) = Refused n
+  abbrev pub decisionOf : (m p : ℕ) → Decision
+  decisionOf m p = decisionBy (bookOf b) (decideQuestions m p)
 
-  unfoldable pub decisionOf : (m p : ℕ) → Decision
-  decisionOf m p = decided (firstNo (decideQuestions m p))
+  abbrev pub marksAfter : (p : ℕ) → List ℕ → List ℕ
+  marksAfter p marks = marksBy (bookOf b) (decideQuestions (length marks) p) marks
 
-  -- the marks; "A refusal changes no buffer"
-  abbrev pub marksBy : Option ℕ → List ℕ → List ℕ
-  marksBy none marks = markedIn (bookOf b) marks
-  marksBy (some n) marks = marks
-
-  unfoldable pub marksAfter : (p : ℕ) → List ℕ → List ℕ
-  marksAfter p marks = marksBy (firstNo (decideQuestions (length marks) p)) marks
-
-  -- the placement, "for outcome 1 only" (`kept-without-outcome-1` of proofs/Deciding)
-  abbrev pub placementBy : Option ℕ → List ℕ → List ℕ
-  placementBy none buffer = placedIn (placement (bookOf b)) buffer
-  placementBy (some n) buffer = buffer
-
-  unfoldable pub placementAfter : (m : ℕ) → List ℕ → List ℕ
-  placementAfter m buffer = placementBy (firstNo (decideQuestions m (length buffer))) buffer
+  abbrev pub placementAfter : (m : ℕ) → List ℕ → List ℕ
+  placementAfter m buffer = placementBy (bookOf b) (decideQuestions m (length buffer)) buffer
 
 -- the document's number for each answer
 abbrev pub decisionNumber : Decision → Option ℕ

@@ -32,7 +32,7 @@ models-of (book-reading b o k ms ps) r =
     let buffer = zeros 16 in
     let a : decisionOf b (length marks) (length buffer) ≡ Decided o k =
     r marks buffer (omega (arith, length-table {A = ℕ} (λ _. 0) (length ms))) (omega (arith, length-table {A = ℕ} (λ _. 0) 16)) .0 in
-    let d : Decidable b (length marks) (length buffer) = decision-decided b (length marks) (length buffer) o k a .0 in (
+    let d : Decidable b (length marks) (length buffer) = decision-decided _ _ o k a .0 in (
       λ e. outcome-1-holds-together b marks buffer d .0 (ap outcomeIn a ∙ e),
       λ e. outcome-2-claims-fail b marks buffer d .0 (ap outcomeIn a ∙ e),
       λ e. outcome-3-no-model b marks buffer d .0 (ap outcomeIn a ∙ e),

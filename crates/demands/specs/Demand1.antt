@@ -51,34 +51,34 @@ module _ (b : List ℕ) where
   counting-asks = refl
 
   pub counting-refuses : countedNumber (countedOf b) ≡ firstNo (candidateQuestions b)
-  counting-refuses = Counting.countedNumber-is b
+  counting-refuses = Counting.countedNumber-is _ _
 
   -- "Deciding, then", with m mark bytes and p placement bytes: `decider::decide`
   pub deciding-asks : (m p : ℕ) → numbers (decideQuestions b m p) ≡ 1 ∷ 2 ∷ 3 ∷ 4 ∷ 5 ∷ 6 ∷ 7 ∷ 8 ∷ 9 ∷ 22 ∷ 10 ∷ 11 ∷ 12 ∷ []
   deciding-asks m p = refl
 
   pub deciding-refuses : (m p : ℕ) → decisionNumber (decisionOf b m p) ≡ firstNo (decideQuestions b m p)
-  deciding-refuses = Deciding.decisionNumber-is b
+  deciding-refuses m p = Deciding.decisionNumber-is _ _
 
   -- "Working out a sheet, after 9", with a grid buffer of g bytes: `checker::work_out`
   pub working-asks : (t : List ℕ) (g : ℕ) → numbers (workQuestions b t g) ≡ 1 ∷ 2 ∷ 3 ∷ 4 ∷ 5 ∷ 6 ∷ 7 ∷ 8 ∷ 9 ∷ 22 ∷ 13 ∷ 14 ∷ 15 ∷ 16 ∷ []
   working-asks t g = refl
 
   pub working-refuses : (t : List ℕ) (g : ℕ) → workedNumber (workedOf b t g) ≡ firstNo (workQuestions b t g)
-  working-refuses = Working.workedNumber-is b
+  working-refuses t g = Working.workedNumber-is _ _ _
 
   -- "Grade of a term in a candidate, or link of two candidates, after 10": `checker::grade`, `checker::link`
   pub grading-asks : (c i : ℕ) → numbers (gradeQuestions b c i) ≡ 1 ∷ 2 ∷ 3 ∷ 4 ∷ 5 ∷ 6 ∷ 7 ∷ 8 ∷ 9 ∷ 22 ∷ 10 ∷ 20 ∷ 21 ∷ []
   grading-asks c i = refl
 
   pub grading-refuses : (c i : ℕ) → answerNumber (gradeAnswer b c i) ≡ firstNo (gradeQuestions b c i)
-  grading-refuses = Asking.gradeNumber-is b
+  grading-refuses c i = Asking.answerNumber-is _ _
 
   pub linking-asks : (r c d : ℕ) → numbers (linkQuestions b r c d) ≡ 1 ∷ 2 ∷ 3 ∷ 4 ∷ 5 ∷ 6 ∷ 7 ∷ 8 ∷ 9 ∷ 22 ∷ 10 ∷ 20 ∷ 21 ∷ []
   linking-asks r c d = refl
 
   pub linking-refuses : (r c d : ℕ) → answerNumber (linkAnswer b r c d) ≡ firstNo (linkQuestions b r c d)
-  linking-refuses = Asking.linkNumber-is b
+  linking-refuses r c d = Asking.answerNumber-is _ _
 
   -- "Writing a sheet, after deciding", with a sheet buffer of t bytes: `writer::write_sheet`. What deciding refuses it refuses;
   pub writing-refuses-first : (m p t n : ℕ) → decisionOf b m p ≡ Refused n → writtenOf b m p t ≡ NotWritten n
@@ -101,10 +101,10 @@ module _ (b : List ℕ) where
 
 module _ (b marks buffer : List ℕ) (n : ℕ) (no : decisionOf b (length marks) (length buffer) ≡ Refused n) where
   pub refused-marks-stay : marksAfter b (length buffer) marks ≡ marks
-  refused-marks-stay = sym (Deciding.refused b marks buffer n (Deciding.decision-refused b (length marks) (length buffer) n no) .1 .0)
+  refused-marks-stay = sym (Deciding.refused _ _ marks buffer n (Deciding.decision-refused _ _ n no) .1 .0)
 
   pub refused-placement-stays : placementAfter b (length marks) buffer ≡ buffer
-  refused-placement-stays = sym (Deciding.refused b marks buffer n (Deciding.decision-refused b (length marks) (length buffer) n no) .1 .1)
+  refused-placement-stays = sym (Deciding.refused _ _ marks buffer n (Deciding.decision-refused _ _ n no) .1 .1)
 
 -- `writer::write_sheet` leaves in marks and placement what `decider::decide` leaves, whatever it answers (its contract has the same equations, with
 -- `marksAfter` and `placementAfter`): with 1 to 12 nothing, with 17 to 19 what deciding sets ("marks and placement stay as decided").

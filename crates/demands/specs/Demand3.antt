@@ -14,10 +14,10 @@ use Rattle.semantics.specs.Interpretations.{Grading, Interpretation}
 use Rattle.semantics.specs.Books.{Book, Valid, individuals, RuleModel, MeetsClaims, RulesSatisfiable, Satisfiable}
 use Rattle.types.specs.Candidates.{candidates, gradeIn, HasType, typeOf}
 use Rattle.book.specs.Reading.{bookOf}
-use Rattle.elimination.specs.Survivors.{Sound}
+use Rattle.elimination.specs.Survivors.{Sound, survivorsOf}
 use Rattle.elimination.specs.Listed.{typesIn, Occurs}
 use Rattle.placement.specs.Dictionary.{Foremost}
-use Rattle.placement.specs.Outcome.{seat, survivorsOf, placement, outcome, placedAmong, placedTypes}
+use Rattle.placement.specs.Outcome.{seat, placement, outcome, placedAmong, placedTypes}
 use Rattle.decider.specs.Deciding.{decisionOf, marksAfter, placementAfter, outcomeIn, survivorsIn, Decidable, CalledUnsatisfiable, listedBy, placementIn, interpretationIn}
 use Rattle.outcomes.specs.declared.Decision.{Decision}
 use Rattle.types.proofs.Candidates as Candidates
@@ -27,6 +27,7 @@ use Rattle.elimination.proofs.Listed as Listed
 use Rattle.placement.proofs.Outcome as Outcome
 use Rattle.book.proofs.Reading.{accepts-valid}
 use Rattle.decider.proofs.Deciding as Deciding
+use Rattle.marking.proofs.Marking as Marks
 use Rattle.decider.proofs.Listed as Left
 use Rattle.demands.specs.Types.{types-differ, listed-are-sound}
 
@@ -56,10 +57,10 @@ module _ (b marks buffer : List ℕ) (d : Decidable b (length marks) (length buf
   w = accepts-valid b (Left.decidable-suffices b (length marks) (length buffer) d .accepted)
 
   outcome-is : outcomeIn answer ≡ outcome B
-  outcome-is = Left.outcome-is b marks buffer d
+  outcome-is = Left.outcome-is B _ d
 
   listed-is : listed ≡ survivorsOf B
-  listed-is = Left.listed-is b marks buffer d
+  listed-is = Marks.listed-are B _ marks d
 
   -- "Outcomes: 1 holds together; 2 the rules have a model but none meets the claims; 3 the rules have none."
   pub outcome-1-holds-together : (outcomeIn answer ≡ 1) ↔ Satisfiable B
@@ -119,7 +120,7 @@ module _ (b marks buffer : List ℕ) (d : Decidable b (length marks) (length buf
     found = interpretationIn b marks′ buffer′
 
     found-is : found ≡ placedTypes B (model .0)
-    found-is = Left.interpretation-is b marks buffer d (model .0) (model .1)
+    found-is = Left.interpretation-is B _ d buffer (model .0) (model .1) marks
 
     pub found-meets-the-rules : RuleModel B found
     found-meets-the-rules = rw found-is (model .2)
@@ -129,13 +130,13 @@ module _ (b marks buffer : List ℕ) (d : Decidable b (length marks) (length buf
 
     -- "individuals sit as placed": each at the element of its placed type
     pub individuals-sit-as-placed : (j : ℕ) → j < individuals B → getD listed (found .element j) 0 ≡ seat (placementIn buffer′ (individuals B)) j
-    individuals-sit-as-placed = rw (listed-is, Left.placement-reads b marks buffer d (model .0) (model .1)) (model .4)
+    individuals-sit-as-placed = rw (listed-is, Left.placement-reads B _ d buffer (model .0) (model .1)) (model .4)
 
     -- the placement that the buffer holds is "the first in dictionary order, individual 0 leading: every other placement at survivors that meets
     -- the claims comes later"
     pub placement-is-first : Foremost listed (individuals B) (λ p. MeetsClaims B (placedAmong B listed p)) (placementIn buffer′ (individuals B))
     placement-is-first =
-        rw (listed-is, Left.placement-reads b marks buffer d (model .0) (model .1))
+        rw (listed-is, Left.placement-reads B _ d buffer (model .0) (model .1))
         (Outcome.placement-first-met B w (Outcome.outcome-placed B (sym outcome-is ∙ yes-said) .0) (model .0) (model .1))
 
   -- ---- and beyond: fewer types may do
@@ -158,7 +159,7 @@ module _ (b marks buffer : List ℕ) (d : Decidable b (length marks) (length buf
       × MeetsClaims B (placedAmong B xs (placementIn buffer′ (individuals B)))
   sound-meet-rules-and-claims yes-said xs s h =
       let u = Outcome.outcome-placed B (sym outcome-is ∙ yes-said) .1 in
-      rw (Left.placement-reads b marks buffer d (u .0) (u .1))
+      rw (Left.placement-reads B _ d buffer (u .0) (u .1))
       (λ m. (
         Outcome.placed-rules B w xs s h (u .0) (u .2 .0 .0, m),
         Outcome.placed-claims B w xs s h (u .0) (u .2 .0 .0, m) (u .2 .1),
@@ -168,27 +169,27 @@ module _ (b marks buffer : List ℕ) (d : Decidable b (length marks) (length buf
 
   -- "The number of survivors is the number of marks set."
   pub survivors-are-counted : survivorsIn answer ≡ length listed
-  survivors-are-counted = Left.counted-is b marks buffer d
+  survivors-are-counted = Left.counted-is B _ d marks
 
   -- "one mark byte per candidate (1 survivor, 0 not)": 1 if and only if the candidate's type occurs, and else 0
   pub marks-say-what-occurs : (c : ℕ) → c < candidates G → (getD marks′ c 0 ≡ 1) ↔ Occurs B c
   marks-say-what-occurs c h =
-      let u = Left.mark-listed b marks buffer d c h in
+      let u = Marks.mark-listed B _ marks d c h in
       (λ e. listed-exactly c .0 (u .0 e) .1, λ o. u .1 (listed-exactly c .1 (h, o)))
 
   pub marks-are-0-or-1 : (c : ℕ) → c < candidates G → (getD marks′ c 0 ≡ 0) ⊎ (getD marks′ c 0 ≡ 1)
-  marks-are-0-or-1 = Left.mark-bit b marks buffer d
+  marks-are-0-or-1 = Marks.mark-bit B _ marks d
 
   -- "All other bytes keep their contents."
   pub marks-are-kept : drop (candidates G) marks′ ≡ drop (candidates G) marks
-  marks-are-kept = Left.marks-kept b marks buffer d
+  marks-are-kept = Marks.marks-kept B _ marks d
 
   pub placement-is-kept : outcomeIn answer ≡ 1 → drop (2 * individuals B) buffer′ ≡ drop (2 * individuals B) buffer
-  placement-is-kept e = Left.placement-kept b marks buffer d (model e .0) (model e .1)
+  placement-is-kept e = Left.placement-kept B _ d buffer (model e .0) (model e .1)
 
   -- "for outcome 1 only, the placement"
   pub placement-for-outcome-1-only : ¬ (outcomeIn answer ≡ 1) → buffer′ ≡ buffer
-  placement-for-outcome-1-only n = Deciding.kept-without-outcome-1 b (length marks) buffer (λ e. n (outcome-is ∙ e))
+  placement-for-outcome-1-only n = Deciding.kept-without-outcome-1 B _ buffer (λ e. n (outcome-is ∙ e))
 
   -- ---- and beyond: deciding again, on what it left, gives the same
 
@@ -207,10 +208,10 @@ module _ (b marks buffer others other : List ℕ) (d : Decidable b (length marks
   decided-the-same = Left.decided-same b marks buffer others other d e
 
   pub listed-the-same : listedBy b (marksAfter b (length buffer) marks) ≡ listedBy b (marksAfter b (length other) others)
-  listed-the-same = Left.listed-is b marks buffer d ∙ sym (Left.listed-is b others other e)
+  listed-the-same = Marks.listed-are (bookOf b) _ marks d ∙ sym (Marks.listed-are (bookOf b) _ others e)
 
   pub placed-the-same : outcomeIn (decisionOf b (length marks) (length buffer)) ≡ 1
       → placementIn (placementAfter b (length marks) buffer) (individuals (bookOf b)) ≡ placementIn (placementAfter b (length others) other) (individuals (bookOf b))
   placed-the-same h =
       let u = model b marks buffer d h in
-      Left.placement-reads b marks buffer d (u .0) (u .1) ∙ sym (Left.placement-reads b others other e (u .0) (u .1))
+      Left.placement-reads (bookOf b) _ d buffer (u .0) (u .1) ∙ sym (Left.placement-reads (bookOf b) _ e other (u .0) (u .1))

@@ -22,9 +22,9 @@ use Rattle.grades.specs.Rows.{rowOf}
 use Rattle.layout.specs.Layout.{byEdition, sectionsOf, lengthRight?, editionRight?, stepsRight?, countsRight?, laidOut?}
 use Rattle.book.specs.Reading.{bookOf}
 use Rattle.counter.specs.Counting.{fewCandidates?, candidateQuestions}
-use Rattle.elimination.specs.Survivors.{fits?, settle, survivors}
+use Rattle.elimination.specs.Survivors.{fits?, settle, survivors, survivorsOf}
 use Rattle.placement.specs.Dictionary.{tryEach}
-use Rattle.placement.specs.Outcome.{survivorsOf, holds?, placementAmong, placement, outcome}
+use Rattle.placement.specs.Outcome.{holds?, placementAmong, placement, outcome}
 use Rattle.printout.specs.Text.{bytes, spelled, decimal}
 use Rattle.printout.specs.Lines.{labelled, newline, refusedLine, outcomeLine, spaced, typeLine, typeLines, individualLine, individualLines}
 use Rattle.printout.specs.Printout.{decidedLines, printedBy, printoutOf}
@@ -35,6 +35,7 @@ use Rattle.chain.proofs.Lists.{getD-table}
 use Rattle.elimination.specs.Marks.{Marked, marked?, marked}
 use Rattle.decider.specs.Deciding.{decisionOf, marksAfter, placementAfter, outcomeIn, survivorsIn, Decidable}
 use Rattle.outcomes.specs.declared.Decision.{Decision}
+use Rattle.marking.proofs.Marking as Marks
 use Rattle.decider.proofs.Listed as Left
 use Rattle.placement.proofs.Outcome as Outcome
 use Rattle.printout.proofs.Whole.{types-blocks, whole-placed, whole-other}
@@ -70,29 +71,29 @@ module _ (b marks buffer : List ℕ) (d : Decidable b (length marks) (length buf
   printout-is = sym (ap (λ (o : Option ℕ). printedBy o B) (first-both (candidateQuestions b) _ d .0))
 
   types-are : types ≡ survivorsOf B
-  types-are = Left.listed-all b marks buffer d clear
+  types-are = Marks.listed-all B _ marks d (Left.decidable-suffices b (length marks) (length buffer) d .marks-suffice) clear
 
   before-is : (l : List ℕ) → before l ≡ outcomeLine (outcome B) (length (survivorsOf B)) ++ (typeLines (rowOf (B .grading)) types ++ l)
   before-is l =
-      ap₂ (λ (o n : ℕ). outcomeLine o n ++ (typeLines (rowOf (B .grading)) types ++ l)) (Left.outcome-is b marks buffer d) (Left.survivors-is b marks buffer d)
+      ap₂ (λ (o n : ℕ). outcomeLine o n ++ (typeLines (rowOf (B .grading)) types ++ l)) (Left.outcome-is B _ d) (Left.survivors-is B _ d)
 
   pub printed-with-individuals : outcomeIn answer ≡ 1
       → before (individualLines (λ j. wordAt (placementAfter b (length marks) buffer) (2 * j)) (individuals B)) ≡ printoutOf b
   unfolding marked
   printed-with-individuals e =
-      let u = Outcome.outcome-placed B (sym (Left.outcome-is b marks buffer d) ∙ e) in
+      let u = Outcome.outcome-placed B (sym (Left.outcome-is B _ d) ∙ e) in
       let p = u .1 .0 in
       before-is _
       ∙ whole-placed B (marksAfter b (length buffer) marks) (length marks) types-are (placementAfter b (length marks) buffer) p
-      (sym (Left.outcome-is b marks buffer d) ∙ e) (u .1 .1) (λ j l.
+      (sym (Left.outcome-is B _ d) ∙ e) (u .1 .1) (λ j l.
       sym (getD-table (λ j. wordAt (placementAfter b (length marks) buffer) (2 * j)) (individuals B) j 0 l)
-      ∙ ap (λ (q : List ℕ). getD q j 0) (Left.placement-reads b marks buffer d p (u .1 .1)))
+      ∙ ap (λ (q : List ℕ). getD q j 0) (Left.placement-reads B _ d buffer p (u .1 .1)))
       ∙ printout-is
 
   pub printed-without : ¬ (outcomeIn answer ≡ 1) → before [] ≡ printoutOf b
   unfolding marked
   printed-without n =
-      before-is [] ∙ whole-other B (marksAfter b (length buffer) marks) (length marks) types-are (λ e. n (Left.outcome-is b marks buffer d ∙ e)) ∙ printout-is
+      before-is [] ∙ whole-other B (marksAfter b (length buffer) marks) (length marks) types-are (λ e. n (Left.outcome-is B _ d ∙ e)) ∙ printout-is
 
 -- The types' lines are printed block by block: those of the candidates marked among m from a on, then those of n more.
 pub types-in-blocks : (row : ℕ → List ℕ) (marks : List ℕ) (a m n : ℕ)

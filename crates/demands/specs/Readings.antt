@@ -24,12 +24,14 @@ use Rattle.encoding.specs.Words.{wordAt}
 use Rattle.layout.specs.Layout.{byEdition, sectionsOf, lengthRight?, editionRight?, stepsRight?, countsRight?, laidOut?}
 use Rattle.book.specs.Reading.{bookOf}
 use Rattle.counter.specs.Counting.{fewCandidates?, candidateQuestions}
-use Rattle.checker.specs.Asking.{linkAnswer}
+use Rattle.checker.specs.Asking.{gradedBy, linkAnswer}
 use Rattle.checker.specs.declared.Answer.the-variants.{Grade}
-use Rattle.outcomes.specs.Decided.{decision, markedIn, placedIn}
+use Rattle.marking.specs.Marking.{markedIn}
+use Rattle.outcomes.specs.Decided.{decision, placedIn}
 use Rattle.decider.specs.Deciding.{decisionOf, marksAfter, placementAfter, Decidable}
 use Rattle.outcomes.specs.declared.Decision.the-variants.{Decided}
 use Rattle.decider.proofs.Deciding as Deciding
+use Rattle.marking.proofs.Marking as Marks
 use Rattle.decider.proofs.Listed as Left
 use Rattle.elimination.specs.Marks.{marksOf}
 use Rattle.elimination.specs.Survivors.{fits?, settle, survivors}
@@ -145,10 +147,10 @@ computed : (q : Reading) → Computes q → Reads q
 computed (link-reading b c d l) e = e
 computed (book-reading b o k ms ps) (asked, count, answer, marks-are, placement-is) = λ marks buffer h g.
     let d : Decidable b (length marks) (length buffer) = Deciding.decide-none b (length marks) (length buffer) asked (rw count h) g in
-    (Left.decided-is b marks buffer d ∙ answer, Left.marks-is b marks buffer d ∙ marks-are marks, Left.placement-is b marks buffer d ∙ placement-is buffer)
+    (Left.decided-is (bookOf b) _ d ∙ answer, Marks.marks-are (bookOf b) _ marks d ∙ marks-are marks, Left.placement-is (bookOf b) _ d buffer ∙ placement-is buffer)
 
 computing : Each Computes readings
-unfolding linkAnswer firstNo says lengthRight? editionRight? stepsRight? countsRight? laidOut? termsRight? rulesRight? membershipsRight? linksRight? pairsRight? fewCandidates?
+unfolding gradedBy firstNo says lengthRight? editionRight? stepsRight? countsRight? laidOut? termsRight? rulesRight? membershipsRight? linksRight? pairsRight? fewCandidates?
     bookOf byEdition sectionsOf wordAt termsOf rulesOf pairsOf membershipsOf membersOf linksOf table outcome placement placementAmong individuals highest tryEach holds? survivors
     settle fits? from keep each? any? marksOf candidates places linkBetween gradeIn value deep placeNumber home homeAs bearer first opens? rank digit flatMap
 computing = (

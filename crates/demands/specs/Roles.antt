@@ -31,12 +31,14 @@ use Rattle.book.proofs.Opening.{accepts-right}
 use Rattle.book.proofs.Reading.{accepts-valid, first-unpaired, editions-agree}
 use Rattle.book.proofs.Pairs as Pairs
 use Rattle.elimination.specs.Listed.{typesIn}
-use Rattle.placement.specs.Outcome.{outcome, survivorsOf}
+use Rattle.elimination.specs.Survivors.{survivorsOf}
+use Rattle.placement.specs.Outcome.{outcome}
 use Rattle.placement.proofs.Pairs.{withPairs, survives-fewer, outcome-no-better}
 use Rattle.checker.specs.Asking.{linkQuestions, linkAnswer}
 use Rattle.checker.specs.declared.Answer.the-variants.{Grade}
 use Rattle.decider.specs.Deciding.{decisionOf, marksAfter, placementAfter, outcomeIn, Decidable, listedBy}
 use Rattle.decider.proofs.Alike as Alike
+use Rattle.marking.proofs.Marking as Marks
 use Rattle.decider.proofs.Listed as Left
 use Rattle.demands.specs.Types.{link-answers, link-is-least}
 use Rattle.demands.specs.Demand3.{listed-meet-the-rules}
@@ -202,10 +204,10 @@ module _ (b c marks buffer others other : List ℕ) (d : Decidable b (length mar
 
   pub more-pairs-no-better : outcomeIn (decisionOf b (length marks) (length buffer)) ≤ outcomeIn (decisionOf c (length others) (length other))
   more-pairs-no-better =
-      rw (Left.outcome-is b marks buffer d, Left.outcome-is c others other e, ap outcome the-one, ap outcome the-other)
+      rw (Left.outcome-is (bookOf b) _ d, Left.outcome-is (bookOf c) _ e, ap outcome the-one, ap outcome the-other)
       (outcome-no-better _ _ _ _ _ (bookOf b .pairs) (bookOf c .pairs) more valid valid-too)
 
   pub more-pairs-list-no-others : (x : ℕ) → Mem x (listedBy c (marksAfter c (length other) others)) → Mem x (listedBy b (marksAfter b (length buffer) marks))
   more-pairs-list-no-others x =
-      rw (Left.listed-is b marks buffer d, Left.listed-is c others other e, ap survivorsOf the-one, ap survivorsOf the-other)
+      rw (Marks.listed-are (bookOf b) _ marks d, Marks.listed-are (bookOf c) _ others e, ap survivorsOf the-one, ap survivorsOf the-other)
       (survives-fewer _ _ _ _ _ (bookOf b .pairs) (bookOf c .pairs) more valid valid-too x)

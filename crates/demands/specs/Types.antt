@@ -37,7 +37,7 @@ use Rattle.checker.proofs.Asking as Asking
 use Rattle.counter.proofs.Counting as Counting
 use Rattle.checker.proofs.Places as Places
 use Rattle.decider.specs.Deciding.{Decidable, marksAfter, listedBy}
-use Rattle.decider.proofs.Listed.{listed-is}
+use Rattle.marking.proofs.Marking.{listed-are}
 
 -- of an accepted book
 module _ (b : List ℕ) (ok : Accepts b) where
@@ -98,13 +98,13 @@ module _ (b : List ℕ) (ok : Accepts b) where
 -- and so the calls answer, where no question of theirs says no
 module _ (b : List ℕ) where
   pub count-answers : firstNo (candidateQuestions b) ≡ none → countedOf b ≡ Counts (candidates (bookOf b .grading))
-  count-answers = Counting.counted-is b
+  count-answers = Counting.counted-is _ _
 
   pub grade-answers : (c i : ℕ) → firstNo (gradeQuestions b c i) ≡ none → gradeAnswer b c i ≡ Grade (gradeIn (bookOf b .grading) c i)
-  grade-answers = Asking.grade-is b
+  grade-answers c i = Asking.graded-is _ _
 
   pub link-answers : (r c d : ℕ) → firstNo (linkQuestions b r c d) ≡ none → linkAnswer b r c d ≡ Grade (link (bookOf b .grading) r c d)
-  link-answers = Asking.link-is b
+  link-answers r c d = Asking.graded-is _ _
 
 -- "A set is sound when each member meets every rule and each of its quantified terms takes exactly its grade from some member through that link.
 -- The survivors are the largest sound set: every sound set lies within it.": those whose types the marks list
@@ -116,10 +116,10 @@ module _ (b marks buffer : List ℕ) (d : Decidable b (length marks) (length buf
   listed = listedBy b (marksAfter b (length buffer) marks)
 
   pub listed-are-sound : Sound (B .grading) (B .rules) (λ c. Mem c listed)
-  listed-are-sound = rw (listed-is b marks buffer d) (Survivors.survivors-sound (B .grading) (B .rules))
+  listed-are-sound = rw (listed-are B _ marks d) (Survivors.survivors-sound (B .grading) (B .rules))
 
   pub sound-sets-lie-within : (S : ℕ → Type 0) → Sound (B .grading) (B .rules) S → (c : ℕ) → S c → Mem c listed
-  sound-sets-lie-within = rw (listed-is b marks buffer d) (Survivors.survivors-largest (B .grading) (B .rules))
+  sound-sets-lie-within = rw (listed-are B _ marks d) (Survivors.survivors-largest (B .grading) (B .rules))
 
 -- "An individual below the highest that no claim mentions may go anywhere."
 pub unmentioned-may-go-anywhere : (B : Book) (j : ℕ) → Unmentioned B j → (I : Interpretation) (at : ℕ → ℕ)

@@ -14,7 +14,8 @@ use Rattle.book.proofs.Opening.{accepts-right}
 use Rattle.book.proofs.Reading.{accepts-valid}
 use Rattle.sheets.specs.Reading.{sheetOf}
 use Rattle.working.specs.declared.Verdict.the-variants.{Meets}
-use Rattle.placement.specs.Outcome.{survivorsOf, outcome}
+use Rattle.elimination.specs.Survivors.{survivorsOf}
+use Rattle.placement.specs.Outcome.{outcome}
 use Rattle.checker.specs.Working.{gridSize, workedOf}
 use Rattle.checker.specs.declared.Worked.the-variants.{Says}
 use Rattle.checker.proofs.Working as Working
@@ -52,7 +53,7 @@ module _ (b marks buffer sheet : List ℕ) (n : ℕ) (e : writtenOf b (length ma
 
       worked : (g : ℕ) → gridSize b (modelBytes (bookOf b)) ≤ g → workedOf b (modelBytes (bookOf b)) g ≡ Says Meets
       worked g h =
-          Working.worked-says b (modelBytes (bookOf b)) g
+          Working.worked-says _ _ _
           (Working.work-none b (modelBytes (bookOf b)) (sectionsOf b) (accepts-right b (u .0)) (Writing.modelShape (bookOf b))
           (Writing.model-right (bookOf b) v (u .1) (u .2)) g h)
           ∙ ap Says (Writing.model-meets (bookOf b) v (u .1))

@@ -10,7 +10,7 @@ use Rattle.chain.specs.Lists.{Mem, Each, each?, any?, keep, from}
 use Rattle.chain.specs.Connectives.{Quantifier, through}
 use Rattle.semantics.specs.Quantified.{EachQuantified, eachQuantified?}
 use Rattle.semantics.specs.Interpretations.{Grading}
-use Rattle.semantics.specs.Books.{Rule}
+use Rattle.semantics.specs.Books.{Rule, Book}
 use Rattle.types.specs.Candidates.{gradeIn, candidates}
 use Rattle.types.specs.Links.{link}
 
@@ -56,3 +56,7 @@ module _ (G : Grading) (rs : List Rule) where
   -- a set that contains the survivors: what code holds, whatever its order of work
   abbrev pub Covers : (ℕ → Type 0) → Type 0
   Covers S = (c : ℕ) → Survives c → S c
+
+-- the candidates that survive a book's rules
+abbrev pub survivorsOf : Book → List ℕ
+survivorsOf B = survivors (B .grading) (B .rules)

@@ -1,41 +1,25 @@
 -- Laws of what deciding says and sets, of an abstract book, and how its bytes are written.
 -- Assumes nothing.
-use mathlib.Core.Path.{_≡_, refl, sym, ap, ap₂, subst, _∙_}
+use mathlib.Core.Path.{_≡_, refl, sym, ap, ap₂, _∙_}
 use mathlib.Core.Bool.{Bool, true, false}
 use mathlib.Core.Option.{Option, none, some}
 use mathlib.Core.List.{List, [], _∷_, _++_, flatMap}
 use Prim.Native.Nat.{ℕ, _+_, _*_, _/_, _%_, _≤_, _<_}
 use native.Mathlib.Numerals.{add-one}
 use native.Mathlib.Omega.{arith}
-use lib.ListN.{length, getD, take, drop, length-append, length-drop}
+use lib.ListN.{length, getD, take, drop}
 use lib.Seq.{take-suc, take-length, length-take-le, take-at, drop-at, drop-drop, sets, sets-eq}
 use Rattle.chain.proofs.Lists.{at-mem}
 use Rattle.encoding.specs.Words.{wordBytes}
 use Rattle.semantics.specs.Books.{Book, individuals}
-use Rattle.types.specs.Candidates.{candidates}
-use Rattle.elimination.specs.Marks.{marksOf, marked}
-use Rattle.elimination.proofs.Marks.{length-marks, marked-marks}
-use Rattle.elimination.proofs.Survivors.{survivors-ascending, survivors-sound}
-use Rattle.placement.specs.Outcome.{HoldsAt, survivorsOf, placement, outcomeOf, outcome}
+use Rattle.elimination.specs.Survivors.{survivorsOf}
+use Rattle.placement.specs.Outcome.{HoldsAt, placement, outcomeOf, outcome}
 use Rattle.placement.specs.Dictionary.{Finds}
 use Rattle.placement.proofs.Outcome.{placement-finds}
 use Rattle.placer.specs.Walk.{placed}
 use Rattle.placer.proofs.Walk.{placed-true, placed-false}
-use Rattle.outcomes.specs.Decided.{decision, markedIn, placedIn}
+use Rattle.outcomes.specs.Decided.{decision, placedIn}
 use Rattle.outcomes.specs.declared.Decision.the-variants.{Decided}
-
--- ---- the marks
-
-module _ (B : Book) (count : ℕ) (e : candidates (B .grading) ≡ count) (marks : List ℕ) where
-  pub marked-in : marked (markedIn B marks) count ≡ survivorsOf B
-  marked-in =
-      subst (λ (n : ℕ). marked (markedIn B marks) n ≡ survivorsOf B) e
-      (marked-marks (survivorsOf B) (candidates (B .grading)) _ (survivors-ascending (B .grading) (B .rules)) (survivors-sound (B .grading) (B .rules) .candidate))
-
-  pub marked-length : count ≤ length marks → length (markedIn B marks) ≡ length marks
-  marked-length h =
-      length-append (marksOf (survivorsOf B) (candidates (B .grading))) _
-      ∙ omega (arith, length-marks (survivorsOf B) (candidates (B .grading)), length-drop (candidates (B .grading)) marks)
 
 -- ---- the outcome
 

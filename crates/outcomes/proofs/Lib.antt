@@ -1,2 +1,2 @@
 pub mod Decided
-pub mod Equipped
+pub mod Placing

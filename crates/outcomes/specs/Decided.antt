@@ -6,19 +6,14 @@ use Prim.Native.Nat.{ℕ, _*_}
 use lib.ListN.{length, drop}
 use Rattle.encoding.specs.Words.{wordBytes}
 use Rattle.semantics.specs.Books.{Book}
-use Rattle.types.specs.Candidates.{candidates}
-use Rattle.elimination.specs.Marks.{marksOf}
-use Rattle.placement.specs.Outcome.{survivorsOf, outcome}
+use Rattle.elimination.specs.Survivors.{survivorsOf}
+use Rattle.placement.specs.Outcome.{outcome}
 use Rattle.outcomes.specs.declared.Decision.{Decision}
 use Rattle.outcomes.specs.declared.Decision.the-variants.{Decided}
 
 -- "the outcome and the number of survivors"
 abbrev pub decision : Book → Decision
 decision B = Decided (outcome B) (length (survivorsOf B))
-
--- "one mark byte per candidate (1 survivor, 0 not)"; the bytes past them are kept
-abbrev pub markedIn : Book → (marks : List ℕ) → List ℕ
-markedIn B marks = marksOf (survivorsOf B) (candidates (B .grading)) ++ drop (candidates (B .grading)) marks
 
 -- "the placement: two bytes per individual"; the bytes past it are kept, and all where there is none
 abbrev pub placedIn : Option (List ℕ) → (buffer : List ℕ) → List ℕ

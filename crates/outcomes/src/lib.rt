@@ -9,10 +9,12 @@ ghost use Rattle.types.specs.Candidates.{candidates};
 ghost use Rattle.book.specs.Opening.{Right};
 ghost use Rattle.book.specs.Reading.{bookOf};
 ghost use Rattle.elimination.specs.Marks.{marked};
-ghost use Rattle.placement.specs.Outcome.{survivorsOf, placement as placementOf, outcome};
+ghost use Rattle.elimination.specs.Survivors.{survivorsOf};
+ghost use Rattle.placement.specs.Outcome.{placement as placementOf, outcome};
 ghost use Rattle.placer.specs.Walk.{placed};
-ghost use Rattle.outcomes.specs.Decided.{decision, markedIn, placedIn};
-ghost use Rattle.outcomes.specs.Equipped.{Equipped};
+ghost use Rattle.marking.specs.Equipped.{Equipped};
+ghost use Rattle.marking.specs.Marking.{markedIn};
+ghost use Rattle.outcomes.specs.Decided.{decision, placedIn};
 use gradings::Logic;
 use layout::Sections;
 
@@ -38,23 +40,6 @@ fn write_placement(seats: &[u16], placement: &mut [u8])
 }
 
 // ---- an accepted book, by the logic that stands for its grading and its quantified terms
-
-// Marks the survivors among the candidates, and counts them.
-fn mark(b: &[u8], s: Sections, logic: Logic, slots: &[u8], count: usize, marks: &mut [u8]) -> usize
-    requires { ⌜ Equipped (now b) s logic (now slots) ⌝ }
-    requires { ⌜ (candidates (bookOf (now b) .grading) ≡ count) × (count ≤ 16384) × (count ≤ length (now marks)) ⌝ }
-    ensures { λ r. ⌜ r ≡ length (survivorsOf (bookOf (now (b .entry)))) ⌝ }
-    ensures { λ _. ⌜ now (marks .exit) ≡ markedIn (bookOf (now (b .entry))) (now (marks .entry)) ⌝ }
-{
-    eliminator::eliminate(
-        logic,
-        layout::terms_in(b, s),
-        slots,
-        layout::rules_in(b, s),
-        count,
-        marks,
-    )
-}
 
 // The first placement of the individuals at the survivors, where there is one.
 fn seat(
@@ -111,32 +96,22 @@ fn place_individuals(
     1
 }
 
-// Decides, where every check says yes.
-fn decide_by(
-    b: &[u8],
-    s: Sections,
-    logic: Logic,
-    slots: &[u8],
-    count: usize,
-    marks: &mut [u8],
-    placement: &mut [u8],
-) -> Decision
-    requires { ⌜ Equipped (now b) s logic (now slots) ⌝ }
-    requires { ⌜ (candidates (bookOf (now b) .grading) ≡ count) × (count ≤ 16384) × (count ≤ length (now marks)) ⌝ }
-    requires { ⌜ 16 ≤ length (now placement) ⌝ }
-    ensures { λ r. ⌜ r ≡ decision (bookOf (now (b .entry))) ⌝ }
-    ensures { λ _. ⌜ now (marks .exit) ≡ markedIn (bookOf (now (b .entry))) (now (marks .entry)) ⌝ }
+// The same, with the logic and the slots made here.
+fn place_checked(b: &[u8], s: Sections, count: usize, marks: &[u8], placement: &mut [u8]) -> u8
+    requires { ⌜ Right (now b) s ⌝ }
+    requires { ⌜ candidates (bookOf (now b) .grading) ≤ 16384 ⌝ }
+    requires { ⌜ (count ≤ 16384) × (count ≤ length (now marks)) × (marked (now marks) count ≡ survivorsOf (bookOf (now b))) ⌝ }
+    requires { ⌜ (0 < length (survivorsOf (bookOf (now b)))) × (16 ≤ length (now placement)) ⌝ }
+    ensures { λ r. ⌜ r ≡ outcome (bookOf (now (b .entry))) ⌝ }
     ensures { λ _. ⌜ now (placement .exit) ≡ placedIn (placementOf (bookOf (now (b .entry)))) (now (placement .entry)) ⌝ }
 {
-    let survivors = mark(b, s, logic, slots, count, marks);
-    if survivors == 0 {
-        return Decision::Decided(3, 0);
-    }
-    let outcome = place_individuals(b, s, logic, slots, count, marks, placement);
-    Decision::Decided(outcome, survivors)
+    let logic = book::logic_in(b, s);
+    let mut slots = [0u8; 64];
+    let m = marking::equip(b, s, logic, &mut slots);
+    place_individuals(b, s, logic, &slots[..4 * m], count, marks, placement)
 }
 
-// The same, with the logic and the slots made here, once.
+// Decides, where every check says yes.
 pub fn decide_checked(
     b: &[u8],
     s: Sections,
@@ -151,8 +126,10 @@ pub fn decide_checked(
     ensures { λ _. ⌜ now (marks .exit) ≡ markedIn (bookOf (now (b .entry))) (now (marks .entry)) ⌝ }
     ensures { λ _. ⌜ now (placement .exit) ≡ placedIn (placementOf (bookOf (now (b .entry)))) (now (placement .entry)) ⌝ }
 {
-    let logic = book::logic_in(b, s);
-    let mut slots = [0u8; 64];
-    let m = slots::collect(layout::terms_in(b, s), &mut slots);
-    decide_by(b, s, logic, &slots[..4 * m], count, marks, placement)
+    let survivors = marking::mark(b, s, count, marks);
+    if survivors == 0 {
+        return Decision::Decided(3, 0);
+    }
+    let outcome = place_checked(b, s, count, marks, placement);
+    Decision::Decided(outcome, survivors)
 }

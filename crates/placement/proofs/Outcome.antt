@@ -16,13 +16,13 @@ use Rattle.semantics.specs.Books.{Book, MembershipClaim, TermInRange, Mentions,
 use Rattle.semantics.proofs.Claims.{members-map}
 use Rattle.types.specs.Candidates.{gradeIn, typeOf}
 use Rattle.types.proofs.Candidates.{typeOf-has}
-use Rattle.elimination.specs.Survivors.{Sound, Survives}
+use Rattle.elimination.specs.Survivors.{Sound, Survives, survivorsOf}
 use Rattle.elimination.specs.Listed.{typesIn}
 use Rattle.elimination.proofs.Survivors.{survivors-ascending, survivors-sound}
 use Rattle.elimination.proofs.Complete.{complete, link-of-types}
 use Rattle.elimination.proofs.Listed.{sound-has, sound-meets}
 use Rattle.placement.specs.Dictionary.{Drawn, Foremost, Nowhere, Finds}
-use Rattle.placement.specs.Outcome.{seat, MembershipMet, survivorsOf, HoldsMembership, HoldsLink, HoldsAt, Unmentioned, holds?, placementAmong, placement, outcomeOf, outcome, placedAmong, placedTypes, seatedAs}
+use Rattle.placement.specs.Outcome.{seat, MembershipMet, HoldsMembership, HoldsLink, HoldsAt, Unmentioned, holds?, placementAmong, placement, outcomeOf, outcome, placedAmong, placedTypes, seatedAs}
 use Rattle.placement.proofs.Dictionary.{seek-finds}
 
 module _ (B : Book) where

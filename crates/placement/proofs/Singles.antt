@@ -4,13 +4,12 @@ use mathlib.Core.Path.{_≡_, refl, ap, subst, _∙_}
 use mathlib.Core.Logic.{_↔_}
 use mathlib.Core.Option.{Option, none, some}
 use mathlib.Core.List.{List, [], _∷_}
-use Prim.Native.Nat.{ℕ, max}
-use Rattle.chain.specs.Lists.{Each, highest}
-use Rattle.semantics.specs.Interpretations.{Interpretation}
-use Rattle.semantics.specs.Books.{Book, linkIndividuals, individuals, MemberMeets, MeetsMembership}
+use Prim.Native.Nat.{ℕ}
+use Rattle.semantics.specs.Books.{Book, individuals}
 use Rattle.semantics.proofs.Claims.{singles-each, written, written-individuals}
 use Rattle.placement.specs.Dictionary.{Finds}
-use Rattle.placement.specs.Outcome.{seat, MembershipMet, survivorsOf, HoldsMembership, Holds, HoldsAt, placement, outcomeOf, outcome}
+use Rattle.elimination.specs.Survivors.{survivorsOf}
+use Rattle.placement.specs.Outcome.{seat, MembershipMet, HoldsMembership, Holds, HoldsAt, placement, outcomeOf, outcome}
 use Rattle.placement.proofs.Dictionary.{finds-same, finds-iff}
 use Rattle.placement.proofs.Outcome.{placement-finds}
 

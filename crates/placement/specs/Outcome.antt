@@ -13,7 +13,7 @@ use Rattle.semantics.specs.Interpretations.{Grading, Interpretation}
 use Rattle.semantics.specs.Books.{Book, MembershipClaim, LinkClaim, Claimed, claimed?, Mentions, individuals}
 use Rattle.types.specs.Candidates.{gradeIn}
 use Rattle.types.specs.Links.{link}
-use Rattle.elimination.specs.Survivors.{survivors}
+use Rattle.elimination.specs.Survivors.{survivorsOf}
 use Rattle.elimination.specs.Listed.{typesIn}
 use Rattle.placement.specs.Dictionary.{seek}
 
@@ -29,10 +29,6 @@ abbrev pub LinkMet : Grading → (ℕ → ℕ) → LinkClaim → Type 0
 LinkMet G s q = q .grade ≤ link G (q .role) (s (q .source)) (s (q .target))
 
 module _ (B : Book) where
-  -- the candidates that survive the book's rules
-  abbrev pub survivorsOf : List ℕ
-  survivorsOf = survivors (B .grading) (B .rules)
-
   -- with individual j at candidate s j, a claim is met
   abbrev pub HoldsMembership : (ℕ → ℕ) → MembershipClaim → Type 0
   HoldsMembership s q = Each (λ j. MembershipMet (B .grading) (s j) q) (q .members)
@@ -66,7 +62,7 @@ module _ (B : Book) where
   -- "the placement: .. every other placement at survivors that meets the claims comes later"
   unfoldable pub placement : Option (List ℕ)
   unfolding placementAmong
-  placement = placementAmong survivorsOf
+  placement = placementAmong (survivorsOf B)
 
   abbrev pub outcomeOf : List ℕ → Option (List ℕ) → ℕ
   outcomeOf [] p = 3
@@ -74,7 +70,7 @@ module _ (B : Book) where
   outcomeOf (c ∷ cs) (some p) = 1
 
   unfoldable pub outcome : ℕ
-  outcome = outcomeOf survivorsOf placement
+  outcome = outcomeOf (survivorsOf B) placement
 
   -- "individuals sit as placed": the interpretation of the candidates in xs, with the individuals at those in p
   abbrev pub placedAmong : (xs p : List ℕ) → Interpretation
@@ -82,7 +78,7 @@ module _ (B : Book) where
 
   -- of the listed types
   abbrev pub placedTypes : List ℕ → Interpretation
-  placedTypes = placedAmong survivorsOf
+  placedTypes = placedAmong (survivorsOf B)
 
 -- an interpretation with the individuals seated otherwise
 abbrev pub seatedAs : Interpretation → (ℕ → ℕ) → Interpretation

@@ -14,7 +14,8 @@ use Rattle.encoding.specs.Words.{wordAt}
 use Rattle.semantics.specs.Books.{Book, individuals}
 use Rattle.grades.specs.Rows.{rowOf}
 use Rattle.elimination.specs.Marks.{marked?}
-use Rattle.placement.specs.Outcome.{seat, survivorsOf, placement, outcome}
+use Rattle.elimination.specs.Survivors.{survivorsOf}
+use Rattle.placement.specs.Outcome.{seat, placement, outcome}
 use Rattle.printout.specs.Lines.{outcomeLine, typeLines, individualLine, individualLines}
 use Rattle.printout.specs.Printout.{placedAt, decidedLines}
 use Rattle.printout.proofs.Lines.{lineIf, types-all}

@@ -11,7 +11,8 @@ use Rattle.semantics.specs.Books.{Book, individuals}
 use Rattle.grades.specs.Rows.{rowOf}
 use Rattle.book.specs.Reading.{bookOf}
 use Rattle.counter.specs.Counting.{candidateQuestions}
-use Rattle.placement.specs.Outcome.{seat, survivorsOf, placement, outcome}
+use Rattle.elimination.specs.Survivors.{survivorsOf}
+use Rattle.placement.specs.Outcome.{seat, placement, outcome}
 use Rattle.printout.specs.Lines.{refusedLine, outcomeLine, typeLines, individualLines}
 
 -- the candidate at which an individual is placed; 0 where none is

@@ -4,7 +4,8 @@ use mathlib.Core.Path.{_≡_}
 use mathlib.Core.Option.{Option, none, some}
 use mathlib.Core.List.{List, [], _∷_}
 use Prim.Native.Nat.{ℕ}
-use Rattle.chain.specs.Questions.{Question, ask, firstNo}
+use Rattle.chain.specs.Questions.{Question, ask}
+use Rattle.chain.specs.Answers.{answer}
 use Rattle.sheets.specs.Layout.{shapeOf, HeadRight, headRight?, SheetLaidOut, sheetLaidOut?, EntriesRight, entriesRight?}
 use Rattle.sheets.specs.declared.Shape.{Shape}
 use Rattle.sheets.specs.declared.Sheet.{Sheet}
@@ -21,13 +22,9 @@ pub record SheetRight (b : List ℕ) (p : Shape) (N A R I : ℕ) : Type 0 where
   pub laid-out : SheetLaidOut b p
   pub entries-right : EntriesRight b p N
 
--- the answer, by the first no
-abbrev pub sheetBy : Shape → Option ℕ → Sheet
-sheetBy p none = Accepted p
-sheetBy p (some n) = Refused n
-
+-- the shape, where no question says no
 unfoldable pub sheetOpened : List ℕ → (N A R I : ℕ) → Sheet
-sheetOpened b N A R I = sheetBy (shapeOf b) (firstNo (sheetQuestions b (shapeOf b) N A R I))
+sheetOpened b N A R I = answer Refused (Accepted (shapeOf b)) (sheetQuestions b (shapeOf b) N A R I)
 
 -- the document's number for each answer
 abbrev pub sheetNumber : Sheet → Option ℕ

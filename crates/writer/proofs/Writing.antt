@@ -11,6 +11,7 @@ use lib.Seq.{take-at, drop-at}
 use Rattle.chain.specs.Lists.{index}
 use Rattle.chain.specs.Questions.{Question, ask, firstNo}
 use Rattle.chain.proofs.Questions.{first-empty, first-yes, first-no, first-none, first-some-append, first-none-append, first-both}
+use Rattle.chain.proofs.Answers.{answer-value, answer-refused, answer-before, answer-after, answer-number, answer-yes}
 use Rattle.semantics.specs.Interpretations.{Grading, Agree}
 use Rattle.semantics.specs.Books.{Book, Valid, nameCount, roleCount, individuals, RuleModel, MeetsClaims}
 use Rattle.sections.specs.Terms.{termsOf}
@@ -32,15 +33,15 @@ use Rattle.working.specs.declared.Verdict.the-variants.{Meets}
 use Rattle.sheets.proofs.Bounds.{few-end}
 use Rattle.sheets.proofs.Writing.{length-sheet, sheet-reads, sheet-right, sheet-meets}
 use Rattle.elimination.specs.Listed.{typesIn}
-use Rattle.placement.specs.Outcome.{seat, survivorsOf, placement, outcome, placedTypes}
+use Rattle.elimination.specs.Survivors.{survivorsOf}
+use Rattle.placement.specs.Outcome.{seat, placement, outcome, placedTypes}
 use Rattle.placement.proofs.Outcome.{outcome-placed, outcome-model, placement-first}
 use Rattle.models.specs.Rows.{modelOf}
 use Rattle.decider.specs.Deciding.{decideQuestions, decisionOf, marksAfter, placementAfter, Decidable, placementIn, interpretationIn}
 use Rattle.outcomes.specs.declared.Decision.the-variants.{Refused as NotDecided, Decided}
 use Rattle.decider.proofs.Deciding.{decision-refused, decision-decided}
 use Rattle.decider.proofs.Listed.{placement-reads, interpretation-is}
-use Rattle.writer.specs.Writing.{seatsOf, modelBytes, modelQuestions, written, writtenIn, writeQuestions, writtenOf, sheetAfter, writtenNumber}
-use Rattle.writer.specs.declared.Written.{Written}
+use Rattle.writer.specs.Writing.{seatsOf, modelBytes, modelQuestions, writtenBy, sheetBy, writeQuestions, writtenOf, sheetAfter, writtenNumber}
 use Rattle.writer.specs.declared.Written.the-variants.{Refused, Sheet}
 
 -- ---- the first no, after deciding
@@ -64,44 +65,41 @@ module _ (B : Book) (t : ℕ) where
           first-yes 17 (ℕ-discrete (outcome B) 1) _ holds ∙ first-yes 18 (decLe (length (survivorsOf B)) 64) _ few
           ∙ first-yes 19 (decLe (length (modelBytes B)) t) [] h ∙ first-empty
 
-  -- the answer and the sheet, by it
-  pub model-refused : (n : ℕ) (sheet : List ℕ) → firstNo (modelQuestions B t) ≡ some n
-      → (Refused n ≡ written B (firstNo (modelQuestions B t))) × (sheet ≡ writtenIn B (firstNo (modelQuestions B t)) sheet)
-  model-refused n sheet e = (sym (ap (written B) e), sym (ap (λ (o : Option ℕ). writtenIn B o sheet) e))
+-- ---- the answer and the sheet, by it
 
-  pub model-written : (sheet : List ℕ) → firstNo (modelQuestions B t) ≡ none
-      → (Sheet (length (modelBytes B)) ≡ written B (firstNo (modelQuestions B t)))
-      × (modelBytes B ++ drop (length (modelBytes B)) sheet ≡ writtenIn B (firstNo (modelQuestions B t)) sheet)
-  model-written sheet e = (sym (ap (written B) e), sym (ap (λ (o : Option ℕ). writtenIn B o sheet) e))
+module _ (B : Book) (qs : List Question) where
+  -- a refusal keeps the sheet
+  pub written-no : (n : ℕ) (sheet : List ℕ) → firstNo qs ≡ some n → (Refused n ≡ writtenBy B qs) × (sheet ≡ sheetBy B qs sheet)
+  unfolding writtenBy sheetBy
+  written-no n sheet e = (sym (answer-refused Refused _ qs n e), sym (answer-refused (λ _. sheet) _ qs n e))
+
+  pub written-yes : (sheet : List ℕ) → firstNo qs ≡ none
+      → (Sheet (length (modelBytes B)) ≡ writtenBy B qs) × (modelBytes B ++ drop (length (modelBytes B)) sheet ≡ sheetBy B qs sheet)
+  unfolding writtenBy sheetBy
+  written-yes sheet e = (sym (answer-value Refused _ qs e), sym (answer-value (λ _. sheet) _ qs e))
+
+  -- more questions after those that say yes
+  pub written-after-yes : (rs : List Question) (sheet : List ℕ) → firstNo qs ≡ none
+      → (writtenBy B rs ≡ writtenBy B (qs ++ rs)) × (sheetBy B rs sheet ≡ sheetBy B (qs ++ rs) sheet)
+  unfolding writtenBy sheetBy
+  written-after-yes rs sheet e = (sym (answer-after Refused _ qs rs e), sym (answer-after (λ _. sheet) _ qs rs e))
+
+  -- the answer's number is the first no
+  pub writtenNumber-is : writtenNumber (writtenBy B qs) ≡ firstNo qs
+  unfolding writtenBy
+  writtenNumber-is = answer-number Refused _ qs writtenNumber (λ n. refl) refl
+
+  pub written-said : (n : ℕ) → writtenBy B qs ≡ Sheet n → (firstNo qs ≡ none) × (n ≡ length (modelBytes B))
+  unfolding writtenBy
+  written-said n e =
+      let u = answer-yes Refused _ qs writtenNumber (λ n. refl) refl (Sheet n) refl e in
+      (u .0, cc)
 
 -- ---- on bytes
 
 module _ (b : List ℕ) (m p : ℕ) (sheet : List ℕ) where
-  abbrev t : ℕ
-  t = length sheet
-
-  pub write-refused : (n : ℕ) → firstNo (decideQuestions b m p) ≡ some n → (Refused n ≡ writtenOf b m p t) × (sheet ≡ sheetAfter b m p sheet)
-  unfolding writtenOf sheetAfter
-  write-refused n e =
-      let f = first-some-append (decideQuestions b m p) (modelQuestions (bookOf b) t) n e in
-      (sym (ap (written (bookOf b)) f), sym (ap (λ (o : Option ℕ). writtenIn (bookOf b) o sheet) f))
-
-  pub write-decided : firstNo (decideQuestions b m p) ≡ none
-      → (written (bookOf b) (firstNo (modelQuestions (bookOf b) t)) ≡ writtenOf b m p t)
-      × (writtenIn (bookOf b) (firstNo (modelQuestions (bookOf b) t)) sheet ≡ sheetAfter b m p sheet)
-  unfolding writtenOf sheetAfter
-  write-decided e =
-      let f = sym (first-none-append (decideQuestions b m p) (modelQuestions (bookOf b) t) e) in
-      (ap (written (bookOf b)) f, ap (λ (o : Option ℕ). writtenIn (bookOf b) o sheet) f)
-
--- the answer's number is the first no
-pub writtenNumber-is : (b : List ℕ) (m p t : ℕ) → writtenNumber (writtenOf b m p t) ≡ firstNo (writeQuestions b m p t)
-unfolding writtenOf
-writtenNumber-is b m p t = go (firstNo (writeQuestions b m p t))
-  where
-    go : (o : Option ℕ) → writtenNumber (written (bookOf b) o) ≡ o
-    go none = refl
-    go (some n) = refl
+  pub write-refused : (n : ℕ) → firstNo (decideQuestions b m p) ≡ some n → (Refused n ≡ writtenOf b m p (length sheet)) × (sheet ≡ sheetAfter b m p sheet)
+  write-refused n e = written-no _ _ n sheet (first-some-append (decideQuestions b m p) _ n e)
 
 -- ---- the model's sheet
 
@@ -142,8 +140,8 @@ module _ (B : Book) where
 
 module _ (b : List ℕ) (m p t : ℕ) where
   pub written-undecided : (n : ℕ) → decisionOf b m p ≡ NotDecided n → writtenOf b m p t ≡ Refused n
-  unfolding writtenOf
-  written-undecided n e = ap (written (bookOf b)) (first-some-append (decideQuestions b m p) _ n (decision-refused b m p n e))
+  unfolding writtenBy
+  written-undecided n e = answer-before Refused _ (decideQuestions b m p) _ n (decision-refused _ _ n e)
 
   module _ (o k : ℕ) (e : decisionOf b m p ≡ Decided o k) where
     -- the last three questions, of an outcome, a number of survivors and a length
@@ -154,42 +152,30 @@ module _ (b : List ℕ) (m p t : ℕ) where
     end = endAt (record { elements = k; names = nameCount (bookOf b); roles = roleCount (bookOf b); individuals = individuals (bookOf b) })
 
     length-is : length (modelBytes (bookOf b)) ≡ end
-    length-is = rw (decision-decided b m p o k e .2) (model-length (bookOf b))
+    length-is = rw (decision-decided _ _ o k e .2) (model-length (bookOf b))
 
     pub written-decided : writtenNumber (writtenOf b m p t) ≡ firstNo (last o k end)
     written-decided =
-        let u = decision-decided b m p o k e in
-        writtenNumber-is b m p t ∙ first-none-append (decideQuestions b m p) (modelQuestions (bookOf b) t) (u .0)
+        let u = decision-decided _ _ o k e in
+        writtenNumber-is _ _ ∙ first-none-append (decideQuestions b m p) (modelQuestions (bookOf b) t) (u .0)
         ∙ ap (λ (l : ℕ). firstNo (last (outcome (bookOf b)) (length (survivorsOf (bookOf b))) l)) length-is
         ∙ sym (ap₂ (λ (o k : ℕ). firstNo (last o k end)) (u .1) (u .2))
 
     pub written-length : (n : ℕ) → writtenOf b m p t ≡ Sheet n → n ≡ end
-    unfolding writtenOf
-    written-length n f = go (firstNo (writeQuestions b m p t)) f ∙ length-is
-      where
-        go : (r : Option ℕ) → written (bookOf b) r ≡ Sheet n → n ≡ length (modelBytes (bookOf b))
-        go none h = cc
-        go (some j) h = let z : _≡_ {A = ℕ} 0 1 = cc in absurd (omega arith)
+    written-length n f = written-said _ _ n f .1 ∙ length-is
 
 -- ---- a sheet that was written
 
 module _ (b : List ℕ) (m p : ℕ) (sheet : List ℕ) (n : ℕ) (e : writtenOf b m p (length sheet) ≡ Sheet n) where
   none-says-no : (firstNo (writeQuestions b m p (length sheet)) ≡ none) × (n ≡ length (modelBytes (bookOf b)))
-  unfolding writtenOf
-  none-says-no = go (firstNo (writeQuestions b m p (length sheet))) refl e
-    where
-      go : (o : Option ℕ) → firstNo (writeQuestions b m p (length sheet)) ≡ o → written (bookOf b) o ≡ Sheet n
-          → (firstNo (writeQuestions b m p (length sheet)) ≡ none) × (n ≡ length (modelBytes (bookOf b)))
-      go none f h = (f, cc)
-      go (some k) f h = let z : _≡_ {A = ℕ} 0 1 = cc in absurd (omega arith)
+  none-says-no = written-said _ _ n e
+
+  filled : sheetAfter b m p sheet ≡ modelBytes (bookOf b) ++ drop (length (modelBytes (bookOf b))) sheet
+  filled = sym (written-yes _ _ sheet (none-says-no .0) .1)
 
   -- is the model's, n bytes long
   pub written-is : take n (sheetAfter b m p sheet) ≡ modelBytes (bookOf b)
-  unfolding sheetAfter
-  written-is =
-      let u = none-says-no in
-      ap (λ (o : Option ℕ). take n (writtenIn (bookOf b) o sheet)) (u .0)
-      ∙ take-at (modelBytes (bookOf b)) (drop (length (modelBytes (bookOf b))) sheet) n (sym (u .1))
+  written-is = ap (take n) filled ∙ take-at (modelBytes (bookOf b)) (drop (length (modelBytes (bookOf b))) sheet) n (sym (none-says-no .1))
 
   -- after every check said yes
   pub written-after : (firstNo (bookQuestions b) ≡ none) × (outcome (bookOf b) ≡ 1) × (length (survivorsOf (bookOf b)) ≤ 64)
@@ -201,12 +187,9 @@ module _ (b : List ℕ) (m p : ℕ) (sheet : List ℕ) (n : ℕ) (e : writtenOf 
 
   -- the bytes past it are kept
   pub written-kept : drop n (sheetAfter b m p sheet) ≡ drop n sheet
-  unfolding sheetAfter
   written-kept =
-      let u = none-says-no in
-      ap (λ (o : Option ℕ). drop n (writtenIn (bookOf b) o sheet)) (u .0)
-      ∙ drop-at (modelBytes (bookOf b)) (drop (length (modelBytes (bookOf b))) sheet) n (sym (u .1))
-      ∙ ap (λ (k : ℕ). drop k sheet) (sym (u .1))
+      let u = none-says-no .1 in
+      ap (drop n) filled ∙ drop-at (modelBytes (bookOf b)) (drop (length (modelBytes (bookOf b))) sheet) n (sym u) ∙ ap (λ (k : ℕ). drop k sheet) (sym u)
 
 -- it stands for the interpretation that deciding leaves in marks and placement
 pub written-stands : (b marks buffer sheet : List ℕ) (n : ℕ) → writtenOf b (length marks) (length buffer) (length sheet) ≡ Sheet n
@@ -219,7 +202,7 @@ written-stands b marks buffer sheet n e =
     let d = first-both (decideQuestions b (length marks) (length buffer)) (modelQuestions B (length sheet)) (none-says-no b (length marks) (length buffer) sheet n e .0) .0 in
     let v = written-after b (length marks) (length buffer) sheet n e in
     let u = found B (accepts-valid b (v .0)) (v .1) in
-    rw (written-is b (length marks) (length buffer) sheet n e, model-bytes B (u .0) (u .1), interpretation-is b marks buffer d (u .0) (u .1))
+    rw (written-is b (length marks) (length buffer) sheet n e, model-bytes B (u .0) (u .1), interpretation-is B _ d buffer (u .0) (u .1) marks)
     (sheet-reads (B .grading .steps) (nameCount B) (roleCount B) (individuals B) (placedTypes B (u .0)))
 
 -- ---- what code has: a shape's numbers, the listed types, the seats
@@ -256,14 +239,7 @@ pub placement-there : (b marks buffer : List ℕ) → Decidable b (length marks)
     → placement (bookOf b) ≡ some (placementIn (placementAfter b (length marks) buffer) (individuals (bookOf b)))
 placement-there b marks buffer d e =
     let u = outcome-placed (bookOf b) e in
-    u .1 .1 ∙ ap {B = Option (List ℕ)} some (sym (placement-reads b marks buffer d (u .1 .0) (u .1 .1)))
-
--- what `write_sheet` promises, from its equation
-pub written-answers : (b : List ℕ) (m p t : ℕ) (r : Written) {Q : Type 0} → (r ≡ writtenOf b m p t) × Q
-    → (r ≡ writtenOf b m p t) × ((writtenNumber r ≡ firstNo (writeQuestions b m p t)) × Q)
-written-answers b m p t r w = (w .0, (ap writtenNumber (w .0) ∙ writtenNumber-is b m p t, w .1))
+    u .1 .1 ∙ ap {B = Option (List ℕ)} some (sym (placement-reads (bookOf b) _ d buffer (u .1 .0) (u .1 .1)))
 
 pub sheet-kept : (b : List ℕ) (m p : ℕ) (sheet : List ℕ) (n : ℕ) → writtenOf b m p (length sheet) ≡ Refused n → sheetAfter b m p sheet ≡ sheet
-unfolding sheetAfter
-sheet-kept b m p sheet n e =
-    ap (λ (o : Option ℕ). writtenIn (bookOf b) o sheet) (sym (writtenNumber-is b m p (length sheet)) ∙ ap writtenNumber e)
+sheet-kept b m p sheet n e = sym (written-no _ _ n sheet (sym (writtenNumber-is _ _) ∙ ap writtenNumber e) .1)

@@ -5,11 +5,13 @@ use mathlib.Core.List.{List, [], _∷_, _++_}
 use Prim.Native.Nat.{ℕ}
 use native.Mathlib.Decide.{ℕ-discrete, decLe}
 use lib.ListN.{length, drop}
-use Rattle.chain.specs.Questions.{Question, ask, firstNo}
+use Rattle.chain.specs.Questions.{Question, ask}
+use Rattle.chain.specs.Answers.{answer, left}
 use Rattle.semantics.specs.Books.{Book, nameCount, roleCount, individuals}
 use Rattle.book.specs.Reading.{bookOf}
 use Rattle.sheets.specs.Writing.{sheetBytes}
-use Rattle.placement.specs.Outcome.{survivorsOf, placement, outcome, placedTypes}
+use Rattle.elimination.specs.Survivors.{survivorsOf}
+use Rattle.placement.specs.Outcome.{placement, outcome, placedTypes}
 use Rattle.decider.specs.Deciding.{decideQuestions}
 use Rattle.writer.specs.declared.Written.{Written}
 use Rattle.writer.specs.declared.Written.the-variants.{Refused, Sheet}
@@ -30,15 +32,16 @@ abbrev pub modelQuestions : Book → (t : ℕ) → List Question
 modelQuestions B t =
     ask 17 (ℕ-discrete (outcome B) 1) ∷ ask 18 (decLe (length (survivorsOf B)) 64) ∷ ask 19 (decLe (length (modelBytes B)) t) ∷ []
 
--- the sheet's length, where no question says no
-abbrev pub written : Book → Option ℕ → Written
-written B none = Sheet (length (modelBytes B))
-written B (some n) = Refused n
+-- ---- of a book that was read, after questions
 
--- "A refusal leaves the sheet buffer untouched, and bytes past the sheet are kept."
-abbrev pub writtenIn : Book → Option ℕ → (sheet : List ℕ) → List ℕ
-writtenIn B none sheet = modelBytes B ++ drop (length (modelBytes B)) sheet
-writtenIn B (some n) sheet = sheet
+module _ (B : Book) (qs : List Question) where
+  -- the sheet's length
+  unfoldable pub writtenBy : Written
+  writtenBy = answer Refused (Sheet (length (modelBytes B))) qs
+
+  -- "A refusal leaves the sheet buffer untouched, and bytes past the sheet are kept."
+  unfoldable pub sheetBy : (sheet : List ℕ) → List ℕ
+  sheetBy sheet = left sheet (modelBytes B ++ drop (length (modelBytes B)) sheet) qs
 
 -- ---- of a book's bytes, with m mark bytes and p placement bytes ("marks and placement stay as decided")
 
@@ -46,11 +49,11 @@ module _ (b : List ℕ) (m p : ℕ) where
   abbrev pub writeQuestions : (t : ℕ) → List Question
   writeQuestions t = decideQuestions b m p ++ modelQuestions (bookOf b) t
 
-  unfoldable pub writtenOf : (t : ℕ) → Written
-  writtenOf t = written (bookOf b) (firstNo (writeQuestions t))
+  abbrev pub writtenOf : (t : ℕ) → Written
+  writtenOf t = writtenBy (bookOf b) (writeQuestions t)
 
-  unfoldable pub sheetAfter : List ℕ → List ℕ
-  sheetAfter sheet = writtenIn (bookOf b) (firstNo (writeQuestions (length sheet))) sheet
+  abbrev pub sheetAfter : List ℕ → List ℕ
+  sheetAfter sheet = sheetBy (bookOf b) (writeQuestions (length sheet)) sheet
 
 -- the document's number for each answer
 abbrev pub writtenNumber : Written → Option ℕ

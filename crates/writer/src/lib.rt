@@ -12,10 +12,11 @@ ghost use Rattle.counter.specs.Counting.{countedOf};
 ghost use Rattle.counter.specs.declared.Counted.the-variants.{Candidates};
 ghost use Rattle.sheets.specs.Layout.{endAt};
 ghost use Rattle.elimination.specs.Marks.{marked};
-ghost use Rattle.placement.specs.Outcome.{survivorsOf, outcome as outcomeOf, placement as placementOf};
+ghost use Rattle.elimination.specs.Survivors.{survivorsOf};
+ghost use Rattle.placement.specs.Outcome.{outcome as outcomeOf, placement as placementOf};
 ghost use Rattle.decider.specs.Deciding.{marksAfter, placementAfter, placementIn};
 ghost use Rattle.writer.specs.Held.{HoldsPlacement};
-ghost use Rattle.writer.specs.Writing.{modelBytes, modelQuestions, written, writtenIn, writeQuestions, writtenOf, sheetAfter, writtenNumber};
+ghost use Rattle.writer.specs.Writing.{modelBytes, modelQuestions, writtenBy, sheetBy, writeQuestions, writtenOf, sheetAfter, writtenNumber};
 use book::Opened;
 use counter::Counted;
 use layout::Sections;
@@ -100,8 +101,8 @@ fn write_few(
     requires { ⌜ Right (now b) s ⌝ }
     requires { ⌜ (count ≤ 16384) × (count ≤ length (now marks)) × (marked (now marks) count ≡ survivorsOf (bookOf (now b))) ⌝ }
     requires { ⌜ (16 ≤ length (now placement)) × HoldsPlacement (now b) (now placement) × (outcomeOf (bookOf (now b)) ≡ 1) × (survivors ≡ length (survivorsOf (bookOf (now b)))) × (survivors ≤ 64) ⌝ }
-    ensures { λ r. ⌜ r ≡ written (bookOf (now (b .entry))) (firstNo (modelQuestions (bookOf (now (b .entry))) (length (now (sheet .entry))))) ⌝ }
-    ensures { λ _. ⌜ now (sheet .exit) ≡ writtenIn (bookOf (now (b .entry))) (firstNo (modelQuestions (bookOf (now (b .entry))) (length (now (sheet .entry))))) (now (sheet .entry)) ⌝ }
+    ensures { λ r. ⌜ r ≡ writtenBy (bookOf (now (b .entry))) (modelQuestions (bookOf (now (b .entry))) (length (now (sheet .entry)))) ⌝ }
+    ensures { λ _. ⌜ now (sheet .exit) ≡ sheetBy (bookOf (now (b .entry))) (modelQuestions (bookOf (now (b .entry))) (length (now (sheet .entry)))) (now (sheet .entry)) ⌝ }
 {
     let p = shape_in(b, s, survivors);
     let length = sheets::end_at(p);
@@ -126,8 +127,8 @@ fn write_decided(
     requires { ⌜ Right (now b) s ⌝ }
     requires { ⌜ (count ≤ 16384) × (count ≤ length (now marks)) × (marked (now marks) count ≡ survivorsOf (bookOf (now b))) ⌝ }
     requires { ⌜ (16 ≤ length (now placement)) × HoldsPlacement (now b) (now placement) × (outcome ≡ outcomeOf (bookOf (now b))) × (survivors ≡ length (survivorsOf (bookOf (now b)))) ⌝ }
-    ensures { λ r. ⌜ r ≡ written (bookOf (now (b .entry))) (firstNo (modelQuestions (bookOf (now (b .entry))) (length (now (sheet .entry))))) ⌝ }
-    ensures { λ _. ⌜ now (sheet .exit) ≡ writtenIn (bookOf (now (b .entry))) (firstNo (modelQuestions (bookOf (now (b .entry))) (length (now (sheet .entry))))) (now (sheet .entry)) ⌝ }
+    ensures { λ r. ⌜ r ≡ writtenBy (bookOf (now (b .entry))) (modelQuestions (bookOf (now (b .entry))) (length (now (sheet .entry)))) ⌝ }
+    ensures { λ _. ⌜ now (sheet .exit) ≡ sheetBy (bookOf (now (b .entry))) (modelQuestions (bookOf (now (b .entry))) (length (now (sheet .entry)))) (now (sheet .entry)) ⌝ }
 {
     if outcome != 1 {
         return Written::Refused(17);

@@ -6,7 +6,7 @@ use Prim.Native.Nat.{ℕ}
 use native.Mathlib.Decide.{decLt}
 use Rattle.chain.specs.Decisions.{says, dec-and}
 use Rattle.chain.specs.Lists.{each?}
-use Rattle.chain.specs.Questions.{firstNo, TellsFirstNo, orZero}
+use Rattle.chain.specs.Questions.{TellsFirstNo, orZero}
 use Rattle.chain.proofs.Questions.{tells-first-no}
 use Rattle.book.specs.Opening.{bookQuestions, openedOf, openedNumber}
 use Rattle.book.specs.declared.Opened.{Opened}
@@ -45,7 +45,7 @@ check-tells b = tells-first-no _ _ refl (go (openedOf b) ∙ ap orZero (openedNu
 
 pub count-tells : (b : List ℕ) → TellsFirstNo (candidateQuestions b) (countedNumbers (countedOf b) .refusal)
 unfolding says dec-and each? decLt
-count-tells b = tells-first-no _ _ refl (go (countedOf b) ∙ ap orZero (countedNumber-is b))
+count-tells b = tells-first-no _ _ refl (go (countedOf b) ∙ ap orZero (countedNumber-is _ _))
   where
     go : (a : Counted) → countedNumbers a .refusal ≡ orZero (countedNumber a)
     go (NotCounted n) = refl
@@ -53,7 +53,7 @@ count-tells b = tells-first-no _ _ refl (go (countedOf b) ∙ ap orZero (counted
 
 pub decide-tells : (b : List ℕ) (m p : ℕ) → TellsFirstNo (decideQuestions b m p) (decidedNumbers (decisionOf b m p) .refusal)
 unfolding says dec-and each? decLt
-decide-tells b m p = tells-first-no _ _ refl (go (decisionOf b m p) ∙ ap orZero (decisionNumber-is b m p))
+decide-tells b m p = tells-first-no _ _ refl (go (decisionOf b m p) ∙ ap orZero (decisionNumber-is _ _))
   where
     go : (a : Decision) → decidedNumbers a .refusal ≡ orZero (decisionNumber a)
     go (NotDecided n) = refl
@@ -61,7 +61,7 @@ decide-tells b m p = tells-first-no _ _ refl (go (decisionOf b m p) ∙ ap orZer
 
 pub write-tells : (b : List ℕ) (m p t : ℕ) → TellsFirstNo (writeQuestions b m p t) (writtenNumbers (writtenOf b m p t) .refusal)
 unfolding says dec-and each? decLt
-write-tells b m p t = tells-first-no _ _ refl (go (writtenOf b m p t) ∙ ap orZero (writtenNumber-is b m p t))
+write-tells b m p t = tells-first-no _ _ refl (go (writtenOf b m p t) ∙ ap orZero (writtenNumber-is _ _))
   where
     go : (a : Written) → writtenNumbers a .refusal ≡ orZero (writtenNumber a)
     go (NotWritten n) = refl
@@ -69,7 +69,7 @@ write-tells b m p t = tells-first-no _ _ refl (go (writtenOf b m p t) ∙ ap orZ
 
 pub work-tells : (b t : List ℕ) (g : ℕ) → TellsFirstNo (workQuestions b t g) (workedNumbers (workedOf b t g) .refusal)
 unfolding says dec-and each? decLt
-work-tells b t g = tells-first-no _ _ refl (go (workedOf b t g) ∙ ap orZero (workedNumber-is b t g))
+work-tells b t g = tells-first-no _ _ refl (go (workedOf b t g) ∙ ap orZero (workedNumber-is _ _ _))
   where
     go : (a : Worked) → workedNumbers a .refusal ≡ orZero (workedNumber a)
     go (NotWorked n) = refl
@@ -84,11 +84,11 @@ graded (NotGraded n) = refl
 graded (Grade g) = refl
 
 pub grade-tells : (b : List ℕ) (c i : ℕ) → TellsFirstNo (gradeQuestions b c i) (gradedNumbers (gradeAnswer b c i) .refusal)
-unfolding says dec-and each? decLt gradeAnswer
+unfolding says dec-and each? decLt
 grade-tells b c i =
-    tells-first-no _ _ refl (graded (gradeAnswer b c i) ∙ ap orZero (answerNumber-is _ (firstNo (gradeQuestions b c i))))
+    tells-first-no _ _ refl (graded (gradeAnswer b c i) ∙ ap orZero (answerNumber-is _ _))
 
 pub link-tells : (b : List ℕ) (r c d : ℕ) → TellsFirstNo (linkQuestions b r c d) (gradedNumbers (linkAnswer b r c d) .refusal)
-unfolding says dec-and each? decLt linkAnswer
+unfolding says dec-and each? decLt
 link-tells b r c d =
-    tells-first-no _ _ refl (graded (linkAnswer b r c d) ∙ ap orZero (answerNumber-is _ (firstNo (linkQuestions b r c d))))
+    tells-first-no _ _ refl (graded (linkAnswer b r c d) ∙ ap orZero (answerNumber-is _ _))

@@ -2,9 +2,11 @@
 -- Assumes nothing.
 use mathlib.Core.Path.{sym, _∙_}
 use borrow.Author.Needs.{needs}
+use Rattle.chain.proofs.Answers.{numbered}
 use Rattle.chain.proofs.Decisions.{told-yes, told-no}
 use Rattle.layout.proofs.Editions.{long-headed}
-use Rattle.book.proofs.Opening.{opened-answers, head-1, head-2, head-3, head-4, head-5, head-none, sections-ordered}
+use Rattle.book.specs.Opening.{openedNumber}
+use Rattle.book.proofs.Opening.{openedNumber-is, head-1, head-2, head-3, head-4, head-5, head-none, sections-ordered}
 use Rattle.book.proofs.open.Statement.{statement}
 use Rattle.book.proofs.open.Tie as tie
 
@@ -12,7 +14,7 @@ length-right-requires : tie.Need-length-right-requires
 length-right-requires c κs = search needs
 
 returns : tie.Need-returns
-returns c = opened-answers _ _ (sym (head-1 _ (told-no _ (c .before .length-right .ensures) (c .if1 .taken))))
+returns c = numbered openedNumber (openedNumber-is _) (sym (head-1 _ (told-no _ (c .before .length-right .ensures) (c .if1 .taken))))
 
 edition-right-requires : tie.Need-edition-right-requires
 edition-right-requires c κs = long-headed (c .before .before .before .args .b .now) (told-yes _ (c .before .length-right .ensures) (c .if1 .left) .0)
@@ -20,7 +22,7 @@ edition-right-requires c κs = long-headed (c .before .before .before .args .b .
 returns-2 : tie.Need-returns-2
 returns-2 c =
     let one = c .before .before in
-    opened-answers _ _ (sym (head-2 _ (told-yes _ (one .before .length-right .ensures) (one .if1 .left))
+    numbered openedNumber (openedNumber-is _) (sym (head-2 _ (told-yes _ (one .before .length-right .ensures) (one .if1 .left))
     (told-no _ (c .before .edition-right .ensures) (c .if2 .taken))))
 
 steps-right-requires : tie.Need-steps-right-requires
@@ -32,7 +34,7 @@ returns-3 : tie.Need-returns-3
 returns-3 c =
     let two = c .before .before in
     let one = two .before .before in
-    opened-answers _ _ (sym (head-3 _ (told-yes _ (one .before .length-right .ensures) (one .if1 .left)) (told-yes _ (two .before .edition-right .ensures) (two .if2 .left))
+    numbered openedNumber (openedNumber-is _) (sym (head-3 _ (told-yes _ (one .before .length-right .ensures) (one .if1 .left)) (told-yes _ (two .before .edition-right .ensures) (two .if2 .left))
     (told-no _ (c .before .steps-right .ensures) (c .if3 .taken))))
 
 counts-right-requires : tie.Need-counts-right-requires
@@ -45,7 +47,7 @@ returns-4 c =
     let three = c .before .before in
     let two = three .before .before in
     let one = two .before .before in
-    opened-answers _ _ (sym (head-4 _ (told-yes _ (one .before .length-right .ensures) (one .if1 .left)) (told-yes _ (two .before .edition-right .ensures) (two .if2 .left))
+    numbered openedNumber (openedNumber-is _) (sym (head-4 _ (told-yes _ (one .before .length-right .ensures) (one .if1 .left)) (told-yes _ (two .before .edition-right .ensures) (two .if2 .left))
     (told-yes _ (three .before .steps-right .ensures) (three .if3 .left)) (told-no _ (c .before .counts-right .ensures) (c .if4 .taken))))
 
 sections-of-requires : tie.Need-sections-of-requires
@@ -64,7 +66,7 @@ returns-5 c =
     let three = four .before .before in
     let two = three .before .before in
     let one = two .before .before in
-    opened-answers _ _ (sym (head-5 _ (told-yes _ (one .before .length-right .ensures) (one .if1 .left)) (told-yes _ (two .before .edition-right .ensures) (two .if2 .left))
+    numbered openedNumber (openedNumber-is _) (sym (head-5 _ (told-yes _ (one .before .length-right .ensures) (one .if1 .left)) (told-yes _ (two .before .edition-right .ensures) (two .if2 .left))
     (told-yes _ (three .before .steps-right .ensures) (three .if3 .left)) (told-yes _ (four .before .counts-right .ensures) (four .if4 .left))
     (rw (← c .before .before .sections-of .ensures) (told-no _ (c .before .laid-out .ensures) (c .if5 .taken)))))
 
@@ -81,7 +83,7 @@ returns-6 c =
     let two = three .before .before in
     let one = two .before .before in
     let sections-of = five .before .before .sections-of in
-    opened-answers _ _ (c .open-bodies .ensures ∙ rw (sections-of .ensures) (sym (head-none _
+    numbered openedNumber (openedNumber-is _) (c .open-bodies .ensures ∙ rw (sections-of .ensures) (sym (head-none _
     (told-yes _ (one .before .length-right .ensures) (one .if1 .left)) (told-yes _ (two .before .edition-right .ensures) (two .if2 .left)) (told-yes _ (three .before .steps-right .ensures) (three .if3 .left))
     (told-yes _ (four .before .counts-right .ensures) (four .if4 .left))
     (rw (← sections-of .ensures) (told-yes _ (five .before .laid-out .ensures) (five .if5 .left))))))

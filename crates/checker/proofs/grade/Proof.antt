@@ -2,11 +2,12 @@
 -- Assumes nothing.
 use mathlib.Core.Path.{sym, _∙_}
 use borrow.Author.Needs.{needs}
+use Rattle.chain.proofs.Answers.{numbered}
 use Rattle.book.proofs.Opening.{opened-accepted}
 use Rattle.counter.specs.Counting.{candidateQuestions}
 use Rattle.counter.proofs.Counting.{counted-declined, counted-refused}
-use Rattle.checker.specs.Asking.{gradeAnswer}
-use Rattle.checker.proofs.Asking.{grade-answers, answered-before}
+use Rattle.checker.specs.Asking.{answerNumber}
+use Rattle.checker.proofs.Asking.{answerNumber-is, graded-before}
 use Rattle.checker.proofs.grade.Statement.{statement}
 use Rattle.checker.proofs.grade.Tie as tie
 
@@ -23,14 +24,12 @@ grade-in-requires : tie.Need-grade-in-requires
 grade-in-requires c κs = opened-accepted _ _ (sym (c .before .before .before .«open» .ensures .0) ∙ c .before .s .given .1)
 
 returns : tie.Need-returns
-unfolding gradeAnswer
 returns c =
-    let s = c .before .before .before .before .before in
-    grade-answers (s .args .b .now) (s .args .c) (s .args .i) _ (sym (answered-before _ (candidateQuestions (c .before .before .before .before .before .args .b .now)) 20 21 _ _ _
-    (counted-declined _ _ (counted-refused _ _ (sym (c .before .before .before .«open» .ensures .0) ∙ c .before .n .given .1)))))
+    numbered answerNumber (answerNumber-is _ _) (sym (graded-before _ (candidateQuestions (c .before .before .before .before .before .args .b .now)) 20 21 _ _ _
+    (counted-declined _ _ _ (counted-refused _ _ (sym (c .before .before .before .«open» .ensures .0) ∙ c .before .n .given .1)))))
 
 returns-2 : tie.Need-returns-2
-returns-2 c = grade-answers _ _ _ _ (c .grade-in .ensures)
+returns-2 c = numbered answerNumber (answerNumber-is _ _) (c .grade-in .ensures)
 
 pub grade-spec : {M : Type 1} → statement M
 grade-spec =

@@ -7,28 +7,25 @@ use Rattle.book.proofs.Opening.{right-ordered}
 use Rattle.book.proofs.Reading.{right-length}
 use Rattle.counter.specs.Counting.{candidateQuestions}
 use Rattle.counter.proofs.Counting.{counted-candidates}
-use Rattle.checker.specs.Asking.{gradeAnswer}
-use Rattle.checker.proofs.Asking.{answered-first, answered-second, answered-both, terms-fit}
+use Rattle.checker.proofs.Asking.{graded-first, graded-second, graded-both, terms-fit}
 use Rattle.checker.proofs.grade_counted.Statement.{statement}
 use Rattle.checker.proofs.grade_counted.Tie as tie
 
 returns : tie.Need-returns
-unfolding gradeAnswer
 returns c =
     let start = c .before .before in
-    let e = counted-candidates _ _ (start .pre .1) in
-    sym (answered-first _ (candidateQuestions (start .args .b .now)) 20 21 _ _ (e .0) (λ h. omega arith))
+    let e = counted-candidates _ _ _ (start .pre .1) in
+    sym (graded-first _ (candidateQuestions (start .args .b .now)) 20 21 _ _ (e .0) (λ h. omega arith))
 
 count-terms-requires : tie.Need-count-terms-requires
 count-terms-requires c κs = right-ordered _ _ (c .before .before .pre .0) .0
 
 returns-2 : tie.Need-returns-2
-unfolding gradeAnswer
 returns-2 c =
     let start = c .before .before .before .before in
-    let e = counted-candidates _ _ (start .pre .1) in
+    let e = counted-candidates _ _ _ (start .pre .1) in
     let l = right-length _ _ (start .pre .0) in
-    sym (answered-second _ (candidateQuestions (start .args .b .now)) 20 21 _ _ (e .0) (omega arith) (λ h. omega arith))
+    sym (graded-second _ (candidateQuestions (start .args .b .now)) 20 21 _ _ (e .0) (omega arith) (λ h. omega arith))
 
 logic-in-requires : tie.Need-logic-in-requires
 logic-in-requires c κs = search needs
@@ -42,13 +39,12 @@ grade-of-requires c κs =
     (h .0, (omega arith, omega arith))
 
 returns-3 : tie.Need-returns-3
-unfolding gradeAnswer
 returns-3 c =
     let start = c .before .before .before .before .before .before .before in
-    let e = counted-candidates _ _ (start .pre .1) in
+    let e = counted-candidates _ _ _ (start .pre .1) in
     let l = right-length _ _ (start .pre .0) in
     rw (c .grade-of .ensures, c .before .terms-in .ensures, c .before .before .logic-in .ensures .0)
-    (sym (answered-both _ (candidateQuestions (start .args .b .now)) 20 21 _ _ (e .0) (omega arith) (omega arith)))
+    (sym (graded-both _ (candidateQuestions (start .args .b .now)) 20 21 _ _ (e .0) (omega arith) (omega arith)))
 
 pub grade-counted-spec : {M : Type 1} → statement M
 grade-counted-spec =

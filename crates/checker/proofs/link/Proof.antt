@@ -2,11 +2,12 @@
 -- Assumes nothing.
 use mathlib.Core.Path.{sym, _∙_}
 use borrow.Author.Needs.{needs}
+use Rattle.chain.proofs.Answers.{numbered}
 use Rattle.book.proofs.Opening.{opened-accepted}
 use Rattle.counter.specs.Counting.{candidateQuestions}
 use Rattle.counter.proofs.Counting.{counted-declined, counted-refused}
-use Rattle.checker.specs.Asking.{linkAnswer}
-use Rattle.checker.proofs.Asking.{link-answers, answered-before}
+use Rattle.checker.specs.Asking.{answerNumber}
+use Rattle.checker.proofs.Asking.{answerNumber-is, graded-before}
 use Rattle.checker.proofs.link.Statement.{statement}
 use Rattle.checker.proofs.link.Tie as tie
 
@@ -23,14 +24,12 @@ link-in-requires : tie.Need-link-in-requires
 link-in-requires c κs = opened-accepted _ _ (sym (c .before .before .before .«open» .ensures .0) ∙ c .before .s .given .1)
 
 returns : tie.Need-returns
-unfolding linkAnswer
 returns c =
-    let s = c .before .before .before .before .before in
-    link-answers (s .args .b .now) (s .args .role) (s .args .c) (s .args .d) _ (sym (answered-before _ (candidateQuestions (c .before .before .before .before .before .args .b .now)) 20 21 _ _ _
-    (counted-declined _ _ (counted-refused _ _ (sym (c .before .before .before .«open» .ensures .0) ∙ c .before .n .given .1)))))
+    numbered answerNumber (answerNumber-is _ _) (sym (graded-before _ (candidateQuestions (c .before .before .before .before .before .args .b .now)) 20 21 _ _ _
+    (counted-declined _ _ _ (counted-refused _ _ (sym (c .before .before .before .«open» .ensures .0) ∙ c .before .n .given .1)))))
 
 returns-2 : tie.Need-returns-2
-returns-2 c = link-answers _ _ _ _ _ (c .link-in .ensures)
+returns-2 c = numbered answerNumber (answerNumber-is _ _) (c .link-in .ensures)
 
 pub link-spec : {M : Type 1} → statement M
 link-spec =

@@ -6,31 +6,27 @@ use borrow.Author.Needs.{needs}
 use Rattle.book.proofs.Opening.{right-ordered}
 use Rattle.counter.specs.Counting.{candidateQuestions}
 use Rattle.counter.proofs.Counting.{counted-candidates}
-use Rattle.checker.specs.Asking.{linkAnswer}
-use Rattle.checker.proofs.Asking.{answered-first, answered-second, answered-both, terms-fit}
+use Rattle.checker.proofs.Asking.{graded-first, graded-second, graded-both, terms-fit}
 use Rattle.checker.proofs.link_counted.Statement.{statement}
 use Rattle.checker.proofs.link_counted.Tie as tie
 
 returns : tie.Need-returns
-unfolding linkAnswer
 returns c =
     let start = c .before .before in
-    let e = counted-candidates _ _ (start .pre .1) in
-    sym (answered-first _ (candidateQuestions (start .args .b .now)) 20 21 _ _ (e .0) (λ h. omega arith))
+    let e = counted-candidates _ _ _ (start .pre .1) in
+    sym (graded-first _ (candidateQuestions (start .args .b .now)) 20 21 _ _ (e .0) (λ h. omega arith))
 
 returns-2 : tie.Need-returns-2
-unfolding linkAnswer
 returns-2 c =
     let start = c .before .before .before in
-    let e = counted-candidates _ _ (start .pre .1) in
-    sym (answered-first _ (candidateQuestions (start .args .b .now)) 20 21 _ _ (e .0) (λ h. omega arith))
+    let e = counted-candidates _ _ _ (start .pre .1) in
+    sym (graded-first _ (candidateQuestions (start .args .b .now)) 20 21 _ _ (e .0) (λ h. omega arith))
 
 returns-3 : tie.Need-returns-3
-unfolding linkAnswer
 returns-3 c =
     let start = c .before .before .before .before in
-    let e = counted-candidates _ _ (start .pre .1) in
-    sym (answered-second _ (candidateQuestions (start .args .b .now)) 20 21 _ _ (e .0) (omega arith, omega arith) (λ h. omega arith))
+    let e = counted-candidates _ _ _ (start .pre .1) in
+    sym (graded-second _ (candidateQuestions (start .args .b .now)) 20 21 _ _ (e .0) (omega arith, omega arith) (λ h. omega arith))
 
 logic-in-requires : tie.Need-logic-in-requires
 logic-in-requires c κs = search needs
@@ -44,12 +40,11 @@ link-of-requires c κs =
     (h .0, omega arith)
 
 returns-4 : tie.Need-returns-4
-unfolding linkAnswer
 returns-4 c =
     let start = c .before .before .before .before .before .before .before in
-    let e = counted-candidates _ _ (start .pre .1) in
+    let e = counted-candidates _ _ _ (start .pre .1) in
     rw (c .link-of .ensures, c .before .terms-in .ensures, c .before .before .logic-in .ensures .0)
-    (sym (answered-both _ (candidateQuestions (start .args .b .now)) 20 21 _ _ (e .0) (omega arith, omega arith) (omega arith)))
+    (sym (graded-both _ (candidateQuestions (start .args .b .now)) 20 21 _ _ (e .0) (omega arith, omega arith) (omega arith)))
 
 pub link-counted-spec : {M : Type 1} → statement M
 link-counted-spec =

@@ -4,8 +4,7 @@ use mathlib.Core.Path.{sym, _∙_}
 use borrow.Author.Needs.{needs}
 use Rattle.counter.specs.Counting.{candidateQuestions}
 use Rattle.counter.proofs.Counting.{counted-declined}
-use Rattle.checker.specs.Asking.{linkAnswer}
-use Rattle.checker.proofs.Asking.{answered-before}
+use Rattle.checker.proofs.Asking.{graded-before}
 use Rattle.checker.proofs.link_in.Statement.{statement}
 use Rattle.checker.proofs.link_in.Tie as tie
 
@@ -22,8 +21,7 @@ link-counted-requires : tie.Need-link-counted-requires
 link-counted-requires c κs = (c .before .before .before .before .before .pre, sym (c .before .before .before .count-in .ensures) ∙ c .before .k .given .1)
 
 returns : tie.Need-returns
-unfolding linkAnswer
-returns c = sym (answered-before _ (candidateQuestions (c .before .before .before .before .before .args .b .now)) 20 21 _ _ _ (counted-declined _ _ (sym (c .before .before .before .count-in .ensures) ∙ c .before .n .given .1)))
+returns c = sym (graded-before _ (candidateQuestions (c .before .before .before .before .before .args .b .now)) 20 21 _ _ _ (counted-declined _ _ _ (sym (c .before .before .before .count-in .ensures) ∙ c .before .n .given .1)))
 
 returns-2 : tie.Need-returns-2
 returns-2 c = search needs

@@ -28,7 +28,7 @@ returns : tie.Need-returns
 returns c =
     let asked = c .before .before .before in
     let start = asked .before .before .before .before .before in
-    refused _ _ _ _
+    refused _ _ _ _ _
     (work-sheet _ (start .args .sheet .now) _ (start .pre) (length (start .args .grid .now)) _ (sheet-asked _ _ _ (start .pre) _ (asked .before .counts-in .ensures .0) _ (asked .open-sheet .ensures) _ (c .before .n .given .1)))
 
 same-length : tie.Need-same-length

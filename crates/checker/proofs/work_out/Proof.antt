@@ -3,8 +3,10 @@
 use mathlib.Core.Path.{sym, _∙_}
 use lib.ListN.{length}
 use borrow.Author.Needs.{needs}
+use Rattle.chain.proofs.Answers.{numbered-and}
 use Rattle.book.proofs.Opening.{opened-accepted}
-use Rattle.checker.proofs.Working.{worked-answers, work-book, refused}
+use Rattle.checker.specs.Working.{workedNumber}
+use Rattle.checker.proofs.Working.{workedNumber-is, work-book, refused}
 use Rattle.checker.proofs.work_out.Statement.{statement}
 use Rattle.checker.proofs.work_out.Tie as tie
 
@@ -23,14 +25,14 @@ work-in-requires c κs = opened-accepted _ _ (sym (c .before .before .before .be
 returns : tie.Need-returns
 returns c =
     let start = c .before .before .before .before .before .before .before in
-    worked-answers _ _ _ _ (refused _ _ _ _ (work-book _ (start .args .sheet .now) (length (start .args .grid .now)) _
+    numbered-and workedNumber (workedNumber-is _ _ _) (refused _ _ _ _ _ (work-book _ (start .args .sheet .now) (length (start .args .grid .now)) _
     (sym (c .before .before .before .«open» .ensures .0) ∙ c .before .n .given .1)))
 
 same-length : tie.Need-same-length
 same-length c = search needs
 
 returns-2 : tie.Need-returns-2
-returns-2 c = worked-answers _ _ _ _ (c .before .before .work-in .ensures)
+returns-2 c = numbered-and workedNumber (workedNumber-is _ _ _) (c .before .before .work-in .ensures)
 
 pub work-out-spec : {M : Type 1} → statement M
 work-out-spec =

@@ -22,7 +22,7 @@ returns : tie.Need-returns
 returns c =
     let start = c .before .before .before .before .before .before in
     let size = size-is _ _ _ (start .pre .0) _ (start .pre .1) _ (c .before .before .count-terms .ensures) in
-    refused _ _ _ 16 (work-16 _ _ _ (start .pre .0) _ (start .pre .1) _ (λ l. omega arith))
+    refused _ _ _ _ 16 (work-16 _ _ _ (start .pre .0) _ (start .pre .1) _ (λ l. omega arith))
 
 slice-aggregate-work-fitting : tie.Need-slice-aggregate-work-fitting
 slice-aggregate-work-fitting c = search needs

@@ -3,7 +3,9 @@
 use mathlib.Core.Path.{sym, _∙_}
 use borrow.Author.Needs.{needs}
 use Rattle.book.proofs.Opening.{opened-accepted}
-use Rattle.counter.proofs.Counting.{counted-refused, counted-answers}
+use Rattle.chain.proofs.Answers.{numbered}
+use Rattle.counter.specs.Counting.{countedNumber}
+use Rattle.counter.proofs.Counting.{counted-refused, countedNumber-is}
 use Rattle.counter.proofs.count.Statement.{statement}
 use Rattle.counter.proofs.count.Tie as tie
 
@@ -20,10 +22,10 @@ count-in-requires : tie.Need-count-in-requires
 count-in-requires c κs = opened-accepted _ _ (sym (c .before .before .before .«open» .ensures .0) ∙ c .before .s .given .1)
 
 returns : tie.Need-returns
-returns c = counted-answers _ _ (sym (counted-refused _ _ (sym (c .before .before .before .«open» .ensures .0) ∙ c .before .n .given .1)))
+returns c = numbered countedNumber (countedNumber-is _ _) (sym (counted-refused _ _ (sym (c .before .before .before .«open» .ensures .0) ∙ c .before .n .given .1)))
 
 returns-2 : tie.Need-returns-2
-returns-2 c = counted-answers _ _ (c .count-in .ensures)
+returns-2 c = numbered countedNumber (countedNumber-is _ _) (c .count-in .ensures)
 
 pub count-spec : {M : Type 1} → statement M
 count-spec =

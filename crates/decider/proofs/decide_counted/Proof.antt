@@ -12,21 +12,21 @@ use Rattle.decider.proofs.decide_counted.Tie as tie
 returns : tie.Need-returns
 returns c =
     let s = c .before .before .before .before in
-    let e = counted-candidates (s .args .b .now) (s .args .k) (s .pre .1) in
-    refused (s .args .b .now) (s .args .marks .now) (s .args .placement .now) 11
+    let e = counted-candidates _ _ (s .args .k) (s .pre .1) in
+    refused _ _ (s .args .marks .now) (s .args .placement .now) 11
     (decide-11 (s .args .b .now) (length (s .args .marks .now)) (length (s .args .placement .now)) (e .0) (λ h. omega (arith, c .if1 .taken, e .1)))
 
 returns-2 : tie.Need-returns-2
 returns-2 c =
     let s = c .before .before .before .before .before in
-    let e = counted-candidates (s .args .b .now) (s .args .k) (s .pre .1) in
-    refused (s .args .b .now) (s .args .marks .now) (s .args .placement .now) 12
+    let e = counted-candidates _ _ (s .args .k) (s .pre .1) in
+    refused _ _ (s .args .marks .now) (s .args .placement .now) 12
     (decide-12 (s .args .b .now) (length (s .args .marks .now)) (length (s .args .placement .now)) (e .0) (omega (arith, c .before .if1 .left, e .1)) (λ h. omega (arith, c .if2 .taken)))
 
 decide-checked-requires : tie.Need-decide-checked-requires
 decide-checked-requires c κs =
     let s = c .before .before .before .before .before .before .before in
-    let e = counted-candidates (s .args .b .now) (s .args .k) (s .pre .1) in
+    let e = counted-candidates _ _ (s .args .k) (s .pre .1) in
     (s .pre .0, ((e .1, counted-small (s .args .b .now) (s .args .k) (s .pre .1), omega (arith, c .before .before .before .if1 .left)), omega (arith, c .before .before .if2 .left)))
 
 same-length : tie.Need-same-length
@@ -38,11 +38,11 @@ same-length-2 c = search needs
 returns-3 : tie.Need-returns-3
 returns-3 c =
     let s = c .before .before .before .before .before .before .before .before .before .before .before .before in
-    let e = counted-candidates (s .args .b .now) (s .args .k) (s .pre .1) in
+    let e = counted-candidates _ _ (s .args .k) (s .pre .1) in
     let two = c .before .before .before .before .before .before .before in
     let none = decide-none (s .args .b .now) (length (s .args .marks .now)) (length (s .args .placement .now)) (e .0)
     (omega (arith, two .before .if1 .left, e .1)) (omega (arith, two .if2 .left)) in
-    let u = settled (s .args .b .now) (s .args .marks .now) (s .args .placement .now) none in
+    let u = settled _ _ (s .args .marks .now) (s .args .placement .now) none in
     let v = c .before .before .before .before .decide-checked .ensures in
     (v .0 ∙ u .0, (v .1 .0 ∙ u .1 .0, v .1 .1 ∙ u .1 .1))
 

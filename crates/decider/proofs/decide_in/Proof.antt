@@ -23,8 +23,8 @@ decide-counted-requires c κs = (c .before .before .before .before .before .befo
 returns : tie.Need-returns
 returns c =
     let s = c .before .before .before .before .before .before .before in
-    refused (s .args .b .now) (s .args .marks .now) (s .args .placement .now) _
-    (decide-before (s .args .b .now) (length (s .args .marks .now)) (length (s .args .placement .now)) _ (counted-declined _ _ (sym (c .before .before .before .count-in .ensures) ∙ c .before .n .given .1)))
+    refused _ _ (s .args .marks .now) (s .args .placement .now) _
+    (decide-before (s .args .b .now) (length (s .args .marks .now)) (length (s .args .placement .now)) _ (counted-declined _ _ _ (sym (c .before .before .before .count-in .ensures) ∙ c .before .n .given .1)))
 
 same-length : tie.Need-same-length
 same-length c = search needs

@@ -2,7 +2,7 @@
 -- Assumes nothing.
 use mathlib.Core.Path.{_∙_}
 use borrow.Author.Needs.{needs}
-use Rattle.outcomes.proofs.Equipped.{placing, placing-is}
+use Rattle.outcomes.proofs.Placing.{placing, placing-is}
 use Rattle.book.proofs.Opening.{right-ordered}
 use Rattle.outcomes.proofs.seat.Statement.{statement}
 use Rattle.outcomes.proofs.seat.Tie as tie

@@ -11,11 +11,11 @@ use Rattle.book.specs.Reading.{bookOf}
 use Rattle.counter.proofs.Counting.{counted-candidates, counted-small}
 use Rattle.semantics.specs.Books.{individuals}
 use Rattle.elimination.specs.Marks.{marked}
-use Rattle.decider.specs.Deciding.{placementIn}
+use Rattle.decider.specs.Deciding.{decideQuestions, placementIn}
 use Rattle.decider.proofs.Listed.{decidable-suffices}
-use Rattle.outcomes.proofs.Decided.{marked-in}
+use Rattle.marking.proofs.Marking.{marked-in}
 use Rattle.decider.proofs.Deciding.{decision-refused, decision-decided, settled}
-use Rattle.writer.proofs.Writing.{write-refused, write-decided, placement-there}
+use Rattle.writer.proofs.Writing.{write-refused, written-after-yes, placement-there}
 use Rattle.writer.proofs.write_counted.Statement.{statement}
 use Rattle.writer.proofs.write_counted.Tie as tie
 
@@ -35,9 +35,9 @@ write-decided-requires c κs =
     let m = length (s .args .marks .now) in
     let p = length (s .args .placement .now) in
     let decide-in = c .before .before .before .before .before .before .before .before .before .before .decide-in in
-    let q = decision-decided b m p _ _ (sym (decide-in .ensures .0) ∙ c .before .before .before .before .outcome .given .1) in
-    let e = counted-candidates b (s .args .k) (s .pre .1) in
-    let u = settled b (s .args .marks .now) (s .args .placement .now) (q .0) in
+    let q = decision-decided _ _ _ _ (sym (decide-in .ensures .0) ∙ c .before .before .before .before .outcome .given .1) in
+    let e = counted-candidates _ _ (s .args .k) (s .pre .1) in
+    let u = settled (bookOf b) (decideQuestions b m p) (s .args .marks .now) (s .args .placement .now) (q .0) in
     let suffices = decidable-suffices b m p (q .0) in (
       s .pre .0,
       (
@@ -67,7 +67,7 @@ returns c =
     let s = c .before .before .before .before .before .before .before .before .before .before .before .before .before .before in
     let decide-in = c .before .before .before .before .before .before .before .decide-in in
     let u = write-refused (s .args .b .now) (length (s .args .marks .now)) (length (s .args .placement .now)) (s .args .sheet .now) _
-    (decision-refused (s .args .b .now) (length (s .args .marks .now)) (length (s .args .placement .now)) _ (sym (decide-in .ensures .0) ∙ c .before .n .given .1)) in
+    (decision-refused _ _ _ (sym (decide-in .ensures .0) ∙ c .before .n .given .1)) in
     (u .0, (decide-in .ensures .1 .0, (decide-in .ensures .1 .1, u .1)))
 
 same-length-3 : tie.Need-same-length-3
@@ -84,8 +84,8 @@ returns-2 c =
     let s = c .before .before .before .before .before .before .before .before .before .before .before .before .before .before .before .before .before .before .before .before in
     let decide-in = c .before .before .before .before .before .before .before .before .before .before .before .before .before .decide-in in
     let write = c .before .before .write-decided in
-    let q = decision-decided (s .args .b .now) (length (s .args .marks .now)) (length (s .args .placement .now)) _ _ (sym (decide-in .ensures .0) ∙ c .before .before .before .before .before .before .before .outcome .given .1) in
-    let u = write-decided (s .args .b .now) (length (s .args .marks .now)) (length (s .args .placement .now)) (s .args .sheet .now) (q .0) in
+    let q = decision-decided _ _ _ _ (sym (decide-in .ensures .0) ∙ c .before .before .before .before .before .before .before .outcome .given .1) in
+    let u = written-after-yes _ _ _ (s .args .sheet .now) (q .0) in
     (write .ensures .0 ∙ u .0, (decide-in .ensures .1 .0, (decide-in .ensures .1 .1, write .ensures .1 ∙ u .1)))
 
 pub write-counted-spec : {M : Type 1} → statement M

@@ -10,7 +10,7 @@ use borrow.Author.Needs.{needs}
 use Rattle.book.specs.Reading.{bookOf}
 use Rattle.writer.specs.declared.Written.the-variants.{Sheet}
 use Rattle.writer.specs.Writing.{modelBytes}
-use Rattle.writer.proofs.Writing.{model-19, model-none, model-refused, model-written, end-model, shape-few}
+use Rattle.writer.proofs.Writing.{model-19, model-none, written-no, written-yes, end-model, shape-few}
 use Rattle.decider.specs.Deciding.{placementIn}
 use Rattle.writer.proofs.write_few.Statement.{statement}
 use Rattle.writer.proofs.write_few.Tie as tie
@@ -30,7 +30,7 @@ returns c =
     let B = bookOf (s .args .b .now) in
     let shape-in = c .before .before .shape-in in
     let e = end-model B (shape-in .result) (shape-in .ensures .0 ∙ s .pre .1 .1 .3) (shape-in .ensures .1) (shape-in .ensures .2) (shape-in .ensures .3) in
-    model-refused B (length (s .args .sheet .now)) 19 (s .args .sheet .now)
+    written-no _ _ 19 (s .args .sheet .now)
     (model-19 B (length (s .args .sheet .now)) (s .pre .1 .1 .2) (omega (arith, s .pre .1 .1 .3, s .pre .1 .1 .4)) (λ h. omega (arith, c .if1 .taken, c .before .end-at .ensures, e, h)))
 
 write-marked-requires : tie.Need-write-marked-requires
@@ -58,7 +58,7 @@ returns-2 c =
     let shape-in = c .before .before .before .before .before .before .shape-in in
     let end-at = c .before .before .before .before .before .end-at in
     let e = end-model B (shape-in .result) (shape-in .ensures .0 ∙ s .pre .1 .1 .3) (shape-in .ensures .1) (shape-in .ensures .2) (shape-in .ensures .3) in
-    let u = model-written B (length (s .args .sheet .now)) (s .args .sheet .now)
+    let u = written-yes _ _ (s .args .sheet .now)
     (model-none B (length (s .args .sheet .now)) (s .pre .1 .1 .2) (omega (arith, s .pre .1 .1 .3, s .pre .1 .1 .4)) (omega (arith, c .before .before .before .before .if1 .left, end-at .ensures, e))) in
     (ap Sheet (end-at .ensures ∙ e) ∙ u .0, c .before .before .write-marked .ensures ∙ ap (λ (n : ℕ). modelBytes B ++ drop n (s .args .sheet .now)) e ∙ u .1)
 

@@ -24,8 +24,8 @@ write-counted-requires c κs = (c .before .before .before .before .before .befor
 returns : tie.Need-returns
 returns c =
     let s = c .before .before .before .before .before .before .before .before in
-    let e = decide-before (s .args .b .now) (length (s .args .marks .now)) (length (s .args .placement .now)) _ (counted-declined _ _ (sym (c .before .before .before .count-in .ensures) ∙ c .before .n .given .1)) in
-    let u = refused (s .args .b .now) (s .args .marks .now) (s .args .placement .now) _ e in
+    let e = decide-before (s .args .b .now) (length (s .args .marks .now)) (length (s .args .placement .now)) _ (counted-declined _ _ _ (sym (c .before .before .before .count-in .ensures) ∙ c .before .n .given .1)) in
+    let u = refused _ _ (s .args .marks .now) (s .args .placement .now) _ e in
     let v = write-refused (s .args .b .now) (length (s .args .marks .now)) (length (s .args .placement .now)) (s .args .sheet .now) _ e in
     (v .0, (u .1 .0, (u .1 .1, v .1)))
 

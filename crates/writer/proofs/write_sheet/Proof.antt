@@ -3,10 +3,12 @@
 use mathlib.Core.Path.{sym, _∙_}
 use lib.ListN.{length}
 use borrow.Author.Needs.{needs}
+use Rattle.chain.proofs.Answers.{numbered-and}
 use Rattle.book.proofs.Opening.{opened-accepted}
 use Rattle.counter.proofs.Counting.{counted-declined, counted-refused}
 use Rattle.decider.proofs.Deciding.{decide-before, refused}
-use Rattle.writer.proofs.Writing.{write-refused, written-answers}
+use Rattle.writer.specs.Writing.{writtenNumber}
+use Rattle.writer.proofs.Writing.{write-refused, writtenNumber-is}
 use Rattle.writer.proofs.write_sheet.Statement.{statement}
 use Rattle.writer.proofs.write_sheet.Tie as tie
 
@@ -26,10 +28,10 @@ returns : tie.Need-returns
 returns c =
     let s = c .before .before .before .before .before .before .before .before in
     let e = decide-before (s .args .b .now) (length (s .args .marks .now)) (length (s .args .placement .now)) _
-    (counted-declined _ _ (counted-refused _ _ (sym (c .before .before .before .«open» .ensures .0) ∙ c .before .n .given .1))) in
-    let u = refused (s .args .b .now) (s .args .marks .now) (s .args .placement .now) _ e in
+    (counted-declined _ _ _ (counted-refused _ _ (sym (c .before .before .before .«open» .ensures .0) ∙ c .before .n .given .1))) in
+    let u = refused _ _ (s .args .marks .now) (s .args .placement .now) _ e in
     let v = write-refused (s .args .b .now) (length (s .args .marks .now)) (length (s .args .placement .now)) (s .args .sheet .now) _ e in
-    written-answers _ _ _ _ _ (v .0, (u .1 .0, (u .1 .1, v .1)))
+    numbered-and writtenNumber (writtenNumber-is _ _) (v .0, (u .1 .0, (u .1 .1, v .1)))
 
 same-length : tie.Need-same-length
 same-length c = search needs
@@ -41,7 +43,7 @@ same-length-3 : tie.Need-same-length-3
 same-length-3 c = search needs
 
 returns-2 : tie.Need-returns-2
-returns-2 c = written-answers _ _ _ _ _ (c .before .before .before .before .before .before .write-in .ensures)
+returns-2 c = numbered-and writtenNumber (writtenNumber-is _ _) (c .before .before .before .before .before .before .write-in .ensures)
 
 pub write-sheet-spec : {M : Type 1} → statement M
 write-sheet-spec =

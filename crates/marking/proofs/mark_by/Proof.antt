@@ -1,15 +1,15 @@
--- `outcomes::mark` meets its contract.
+-- `marking::mark_by` meets its contract.
 -- Assumes nothing.
 use mathlib.Core.List.{List, _++_}
 use mathlib.Core.Path.{sym, ap, ap₂, _∙_}
 use Prim.Native.Nat.{ℕ}
 use lib.ListN.{length, drop}
 use borrow.Author.Needs.{needs}
-use Rattle.outcomes.proofs.Equipped.{elimination, survivors-are}
+use Rattle.marking.proofs.Equipped.{elimination, survivors-are}
 use Rattle.elimination.specs.Marks.{marksOf}
 use Rattle.book.proofs.Opening.{right-ordered}
-use Rattle.outcomes.proofs.mark.Statement.{statement}
-use Rattle.outcomes.proofs.mark.Tie as tie
+use Rattle.marking.proofs.mark_by.Statement.{statement}
+use Rattle.marking.proofs.mark_by.Tie as tie
 
 terms-in-requires : tie.Need-terms-in-requires
 terms-in-requires c κs = right-ordered (c .before .before .before .args .b .now) (c .before .before .before .args .s) (c .before .before .before .pre .0 .right)
@@ -36,6 +36,6 @@ returns c =
       eliminate .ensures .1 ∙ ap₂ (λ (xs : List ℕ) (n : ℕ). marksOf xs n ++ drop n (s .args .marks .now)) e (sym (s .pre .1 .0)),
     )
 
-pub mark-spec : {M : Type 1} → statement M
-mark-spec =
+pub mark-by-spec : {M : Type 1} → statement M
+mark-by-spec =
     tie.close (tie.spec terms-in-requires rules-in-requires eliminate-requires same-length returns)

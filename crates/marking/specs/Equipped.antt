@@ -1,4 +1,4 @@
--- What deciding works with: an accepted book's sections, the logic that stands for its grading, and its quantified terms as slots. It stands in
+-- What marking and placing work with: an accepted book's sections, the logic that stands for its grading, and its quantified terms as slots. It stands in
 -- private contracts only.
 -- Assumes nothing.
 use mathlib.Core.Path.{_≡_}

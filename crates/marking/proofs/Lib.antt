@@ -1,0 +1,2 @@
+pub mod Equipped
+pub mod Marking

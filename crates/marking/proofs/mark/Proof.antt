@@ -1,0 +1,55 @@
+-- `marking::mark` meets its contract.
+-- Assumes nothing.
+use mathlib.Core.Path.{sym}
+use Prim.Native.Nat.{_*_}
+use native.Mathlib.Omega.{arith}
+use lib.Seq.{length-take-le}
+use borrow.Author.Needs.{needs}
+use Rattle.marking.proofs.mark.Statement.{statement}
+use Rattle.marking.proofs.mark.Tie as tie
+
+logic-in-requires : tie.Need-logic-in-requires
+logic-in-requires c κs = search needs
+
+slice-aggregate-equip : tie.Need-slice-aggregate-equip
+slice-aggregate-equip c = search needs
+
+equip-requires : tie.Need-equip-requires
+equip-requires c κs =
+    let s = c .before .before .before .before in
+    let logic-in = c .before .logic-in in
+    (s .pre .0, ((logic-in .ensures .0, logic-in .ensures .1 .0, logic-in .ensures .1 .1), (omega (arith, s .pre .1 .0, s .pre .1 .1), omega arith)))
+
+mul-slots : tie.Need-mul-slots
+mul-slots c = omega (arith, c .before .equip .ensures .0)
+
+array-share-prefix-slots : tie.Need-array-share-prefix-slots
+array-share-prefix-slots c = omega (arith, c .before .equip .ensures .0, c .before .equip .kept)
+
+slice-aggregate-mark-by : tie.Need-slice-aggregate-mark-by
+slice-aggregate-mark-by c =
+    let equip = c .before .before .equip in
+    sym (length-take-le (4 * equip .result) _ (omega (arith, equip .ensures .0, equip .kept)))
+
+mark-by-requires : tie.Need-mark-by-requires
+mark-by-requires c κs = search needs
+
+same-length : tie.Need-same-length
+same-length c = search needs
+
+returns : tie.Need-returns
+returns c = search needs
+
+pub mark-spec : {M : Type 1} → statement M
+mark-spec =
+    tie.close
+    (tie.spec
+    logic-in-requires
+    slice-aggregate-equip
+    equip-requires
+    mul-slots
+    array-share-prefix-slots
+    slice-aggregate-mark-by
+    mark-by-requires
+    same-length
+    returns)
