@@ -1,15 +1,16 @@
 -- Laws of lists cut into blocks of one width, as a section of a file is into records.
 -- Assumes nothing.
 use mathlib.Core.Path.{_≡_, refl, sym, ap, subst, _∙_}
-use mathlib.Core.List.{List, [], _∷_, _++_, flatMap}
+use mathlib.Core.List.{List, [], _∷_, _++_, flatMap, append-assoc}
 use Prim.Native.Nat.{ℕ, zero, suc, _+_, _-_, _*_, _/_, _≤_, _<_}
-use native.Mathlib.Nat.{mul-zero, mul-suc, suc-mul, mul-le-mul-left, mul-le-mul-right, div-eq-of-eq-mul-right}
+use native.Mathlib.Nat.{zero-add, add-zero, zero-mul, mul-zero, mul-suc, suc-mul, mul-le-mul-left, mul-le-mul-right, not-suc-le-zero, div-eq-of-eq-mul-right}
+use native.Mathlib.Numerals.{add-one}
 use native.Mathlib.Omega.{arith}
-use lib.ListN.{length, getD, take, drop, length-take, length-drop}
-use lib.Seq.{length-take-le, take-all, take-add, take-take, take-at, drop-at, drop-drop, getD-take, getD-drop, ext-getD}
+use lib.ListN.{length, getD, take, drop, length-take, length-drop, length-append, List·getD-append}
+use lib.Seq.{length-take-le, take-all, take-add, take-take, take-at, drop-at, drop-drop, getD-take, getD-drop, getD-append-add, ext-getD}
 use borrow.Author.Count.{below-more}
-use Rattle.chain.specs.Lists.{table}
-use Rattle.chain.proofs.Lists.{length-table, getD-table}
+use Rattle.chain.specs.Lists.{table, from}
+use Rattle.chain.proofs.Lists.{length-table, getD-table, flatMap-none, flatMap-more}
 
 -- the n entries from index i on, one by one
 pub take-table : {A : Type 0} (d : A) (s : List A) (i n : ℕ) → i + n ≤ length s → take n (drop i s) ≡ table (λ j. getD s (i + j) d) n
@@ -82,3 +83,47 @@ module _ {A : Type 0} where
 -- block k of n, each of width w, ends within them
 pub block-fits : (w k n : ℕ) → k < n → k * w + w ≤ n * w
 block-fits w k n h = omega (arith, mul-le-mul-right w h, suc-mul k w)
+
+-- ---- blocks of one width, one after another, given by their number
+
+module _ (f : ℕ → List ℕ) (w : ℕ) (wide : (x : ℕ) → length (f x) ≡ w) where
+  pub length-blocks : (a n : ℕ) → length (flatMap f (from a n)) ≡ n * w
+  unfolding flatMap from
+  length-blocks a zero = sym (zero-mul w)
+  length-blocks a (suc n) = omega (arith, length-append (f a) (flatMap f (from (suc a) n)), wide a, length-blocks (suc a) n, suc-mul n w)
+
+  at-blocks : (a n k i : ℕ) → k < n → i < w → getD (flatMap f (from a n)) (w * k + i) 0 ≡ getD (f (a + k)) i 0
+  unfolding flatMap from
+  at-blocks a zero k i h l = absurd (not-suc-le-zero h)
+  at-blocks a (suc n) zero i h l =
+      let e : w * 0 + i ≡ i = omega (arith, mul-zero w) in
+      rw (e, add-zero a) (List·getD-append (f a) (flatMap f (from (suc a) n)) 0 i (omega (arith, wide a)))
+  at-blocks a (suc n) (suc k) i h l =
+      let e : w * suc k + i ≡ length (f a) + (w * k + i) = omega (arith, mul-suc w k, wide a) in
+      let g : a + suc k ≡ suc a + k = omega arith in
+      rw (e, getD-append-add (f a) (flatMap f (from (suc a) n)) (w * k + i) 0, g) (at-blocks (suc a) n k i (omega arith) l)
+
+  pub at-rows : (n k i : ℕ) → k < n → i < w → getD (flatMap f (from 0 n)) (w * k + i) 0 ≡ getD (f k) i 0
+  at-rows n k i h l = at-blocks 0 n k i h l ∙ ap (λ (x : ℕ). getD (f x) i 0) (zero-add k)
+
+  -- the list that a loop fills with them, from the front
+  pub fill-none : (d : List ℕ) → d ≡ flatMap f (from 0 0) ++ drop (0 * w) d
+  fill-none d = rw (zero-mul, flatMap-none)
+
+  pub fill-more : (n : ℕ) (l d block : List ℕ) → l ≡ flatMap f (from 0 n) ++ drop (n * w) d → n * w + w ≤ length l → block ≡ f n
+      → take (n * w) l ++ (block ++ drop (n * w + w - n * w) (drop (n * w) l)) ≡ flatMap f (from 0 (n + 1)) ++ drop ((n + 1) * w) d
+  fill-more n l d block e h is =
+      let width : n * w + w - n * w ≡ w = omega arith in
+      let more : flatMap f (from 0 (suc n)) ≡ flatMap f (from 0 n) ++ f n = rw zero-add at (flatMap-more f 0 n) in
+      rw (
+        is,
+        width,
+        e,
+        take-at (flatMap f (from 0 n)) (drop (n * w) d) (n * w) (length-blocks 0 n),
+        drop-at (flatMap f (from 0 n)) (drop (n * w) d) (n * w) (length-blocks 0 n),
+        drop-drop,
+        add-one n,
+        more,
+        suc-mul n w,
+        append-assoc,
+      )

@@ -22,7 +22,7 @@ use Rattle.working.proofs.Working.{verdict-says}
 use Rattle.sheets.specs.Reading.{sheetOf}
 use Rattle.sheets.proofs.Opening.{none-right}
 use Rattle.sheets.proofs.Reading.{sheet-on-chain}
-use Rattle.sheets.proofs.Writing.{length-blocks, at-rows}
+use Rattle.chain.proofs.Blocks.{length-blocks, at-rows}
 use Rattle.checker.specs.Working.{gridSize, bookSheetQuestions, workQuestions, workedOf, gridAfter, workedNumber}
 use Rattle.checker.specs.declared.Worked.the-variants.{Refused, Says as Answers}
 use Rattle.checker.proofs.Working.{worked-says, grid-worked, grid-refused, workedNumber-is}

@@ -1,11 +1,14 @@
--- Laws of the bits of a byte.
+-- Laws of the bits of a byte, and of a word.
 -- Assumes nothing.
-use mathlib.Core.Path.{_≡_, refl, subst}
+use mathlib.Core.Path.{_≡_, refl, sym, ap, subst, _∙_}
 use mathlib.Core.Logic.{_↔_}
 use mathlib.Core.List.{[]}
-use Prim.Native.Nat.{ℕ, suc, _-_, _≤_, _<_}
+use Prim.Native.Nat.{ℕ, zero, suc, _+_, _-_, _*_, _/_, _%_, _^_, _≤_, _<_, min}
+use native.Mathlib.Nat.{pow-suc, mul-comm, div-one, div-div-eq-div-mul}
 use native.Mathlib.Decide.{ℕ-discrete, decLt}
 use native.Mathlib.Omega.{arith}
+use lib.Arith.{digits-div, digits-mod}
+use lib.Bits.{bitAnd, and-step}
 use Rattle.chain.specs.Decisions.{says}
 use Rattle.chain.specs.Search.{all?}
 use Rattle.chain.specs.Lists.{Mem, Ascending, highest, from}
@@ -61,3 +64,39 @@ no-bits = refl
 pub byte-of-bits : (x : ℕ) → x < 256 → byteOf (bitsOf x) ≡ x
 unfolding all? says ℕ-discrete byteOf bitsOf
 byte-of-bits = says-true (all? (λ x. ℕ-discrete (byteOf (bitsOf x)) x) 256) refl
+
+-- ---- of any number, by its lowest bit and the rest
+
+-- a number's lower bits are its remainder, and its higher ones those of the half
+half-bit : (x i : ℕ) → x / 2 ^ suc i % 2 ≡ x / 2 / 2 ^ i % 2
+half-bit x i = ap (λ (y : ℕ). y % 2) (rw (pow-suc 2 i, mul-comm (2 ^ i) 2) (sym (div-div-eq-div-mul x 2 (2 ^ i))))
+
+-- one bit more below
+module _ (x d : ℕ) (h : d < 2) where
+  pub bit-lowest : Bit (x * 2 + d) 0 ↔ (d ≡ 1)
+  bit-lowest = let e : (x * 2 + d) / 2 ^ 0 % 2 ≡ d = ap (λ (y : ℕ). y % 2) (div-one (x * 2 + d)) ∙ digits-mod x h in (λ b. sym e ∙ b, λ q. e ∙ q)
+
+  pub bit-above : (i : ℕ) → Bit (x * 2 + d) (suc i) ↔ Bit x i
+  bit-above i = let e = half-bit (x * 2 + d) i ∙ ap (λ (y : ℕ). y / 2 ^ i % 2) (digits-div x h) in (λ b. sym e ∙ b, λ b. e ∙ b)
+
+-- the bits that two numbers have in common
+pub bit-and : (i a b : ℕ) → Bit (bitAnd a b) i ↔ (Bit a i × Bit b i)
+bit-and zero a b =
+    let m : min (a % 2) (b % 2) < 2 = omega arith in
+    let u = bit-lowest (bitAnd (a / 2) (b / 2)) (min (a % 2) (b % 2)) m in
+    let p : (x : ℕ) → x / 2 ^ 0 % 2 ≡ x % 2 = λ x. ap (λ (y : ℕ). y % 2) (div-one x) in
+    rw (and-step a b) (
+      λ h. let e = u .0 h in (omega (arith, e, p a), omega (arith, e, p b)),
+      λ h. u .1 (omega (arith, h .0, h .1, p a, p b)),
+    )
+bit-and (suc i) a b =
+    let m : min (a % 2) (b % 2) < 2 = omega arith in
+    let u = bit-above (bitAnd (a / 2) (b / 2)) (min (a % 2) (b % 2)) m i in
+    let ih = bit-and i (a / 2) (b / 2) in
+    rw (and-step a b)
+    (λ h. let e = ih .0 (u .0 h) in (half-bit a i ∙ e .0, half-bit b i ∙ e .1), λ h. u .1 (ih .1 (sym (half-bit a i) ∙ h .0, sym (half-bit b i) ∙ h .1)))
+
+-- a word in which all 64 are set
+pub word-bits : (i : ℕ) → i < 64 → Bit 18446744073709551615 i
+unfolding says all? bit? decLt ℕ-discrete
+word-bits = says-true (all? (bit? 18446744073709551615) 64) refl

@@ -5,6 +5,7 @@ use mathlib.Core.List.{List, _++_}
 use Prim.Native.Nat.{ℕ, _+_, _*_, _≤_}
 use native.Mathlib.Omega.{arith}
 use lib.ListN.{length, getD, take, List·getD-append}
+use lib.Seq.{take-at}
 use Rattle.chain.specs.Lists.{table}
 use Rattle.chain.proofs.Lists.{length-table, getD-table, every-table}
 use Rattle.chain.proofs.Blocks.{length-block, each-block-more}
@@ -18,8 +19,8 @@ use Rattle.types.proofs.Candidates.{gradeIn-le}
 use Rattle.gradings.specs.Gradings.{grading}
 use Rattle.gradings.specs.declared.Logic.{Logic}
 use Rattle.gradings.proofs.Gradings.{grading-well-formed}
-use Rattle.sections.specs.Terms.{termCount, termsOf}
-use Rattle.sections.proofs.Terms.{length-terms}
+use Rattle.sections.specs.Terms.{termCount, termsOf, TermsRight}
+use Rattle.sections.proofs.Terms.{length-terms, terms-ordered}
 use Rattle.grades.specs.Rows.{rowOf, HasGrades, rowAt, entry, EachRow}
 
 -- ---- a candidate's row
@@ -29,7 +30,7 @@ module _ (G : Grading) (c : ℕ) where
   unfolding rowOf
   length-row = length-table (gradeIn G c) (length (G .terms))
 
-  row-grades : HasGrades G c (rowOf G c)
+  pub row-grades : HasGrades G c (rowOf G c)
   unfolding rowOf
   row-grades i h = getD-table (gradeIn G c) (length (G .terms)) i 0 h
 
@@ -46,7 +47,21 @@ module _ (G : Grading) (c : ℕ) where
   unfolding rowOf
   row-le w = every-table (λ x. x ≤ G .steps) (gradeIn G c) (length (G .terms)) 0 (omega arith) (gradeIn-le G w c)
 
--- over a section of terms
+-- ---- over a section of terms: a candidate's row, at the front of what code filled
+
+module _ (lg : Logic) (s : List ℕ) (c : ℕ) where
+  abbrev row : List ℕ
+  row = rowOf (grading lg (termsOf s)) c
+
+  pub row-length : length row ≡ termCount s
+  row-length = length-row (grading lg (termsOf s)) c ∙ length-terms s
+
+  pub row-front : (xs ys : List ℕ) → xs ≡ row ++ ys → take (termCount s) xs ≡ row
+  row-front xs ys e = ap (take (termCount s)) e ∙ take-at row ys (termCount s) row-length
+
+  pub row-at-most : TermsRight s → (i : ℕ) → getD row i 0 ≤ lg .steps
+  row-at-most h = row-le (grading lg (termsOf s)) c (grading-well-formed lg (termsOf s) (terms-ordered s h))
+
 pub row-terms : (l : Logic) (s : List ℕ) (c : ℕ) → rowOf (grading l (termsOf s)) c ≡ table (gradeIn (grading l (termsOf s)) c) (termCount s)
 unfolding rowOf
 row-terms l s c = ap (table (gradeIn (grading l (termsOf s)) c)) (length-terms s)

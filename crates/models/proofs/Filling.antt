@@ -10,7 +10,7 @@ use lib.ListN.{length, take, drop, length-append, length-drop, length-take}
 use lib.Seq.{take-at, drop-at, drop-drop, drop-length, sets, sets-eq}
 use Rattle.chain.specs.Lists.{from}
 use Rattle.chain.proofs.Lists.{flatMap-none, flatMap-more}
-use Rattle.sheets.proofs.Writing.{length-blocks}
+use Rattle.chain.proofs.Blocks.{length-blocks}
 
 -- what a list becomes when its stretch from a up to c is written anew
 abbrev pub pasted : List ℕ → (a c : ℕ) → List ℕ → List ℕ
@@ -43,9 +43,6 @@ stored vs l e =
 -- ---- blocks of one width
 
 module _ (f : ℕ → List ℕ) (w : ℕ) (wide : (x : ℕ) → length (f x) ≡ w) where
-  pub blocks-none : (d : List ℕ) → d ≡ flatMap f (from 0 0) ++ drop (0 * w) d
-  blocks-none d = rw (zero-mul, flatMap-none)
-
   pub blocks-next : (k : ℕ) (l d part : List ℕ) → l ≡ flatMap f (from 0 k) ++ drop (k * w) d → part ≡ f k
       → pasted l (k * w) (k * w + w) part ≡ flatMap f (from 0 (k + 1)) ++ drop ((k + 1) * w) d
   blocks-next k l d part e h =

@@ -25,7 +25,8 @@ use Rattle.sheets.specs.Layout.{linksAt, individualsAt, endAt, Indexable}
 use Rattle.sheets.specs.Writing.{sheetBytes}
 use Rattle.sheets.specs.declared.Shape.{Shape}
 use Rattle.sheets.proofs.Bounds.{few-end}
-use Rattle.sheets.proofs.Writing.{sheet-same, length-blocks}
+use Rattle.chain.proofs.Blocks.{length-blocks}
+use Rattle.sheets.proofs.Writing.{sheet-same}
 use Rattle.models.specs.Rows.{Small, modelOf, HoldsRows, nameIn, linkIn, rowsIn, namesBy, squareBy, linksBy, headBy}
 use Rattle.models.proofs.Listing.{first-found, first-missed}
 use Rattle.models.proofs.Filling.{pasted, paste-four}

@@ -7,16 +7,14 @@ use Prim.Native.Nat.{ℕ, _+_, _<_}
 use native.Mathlib.Numerals.{add-one}
 use native.Mathlib.Omega.{arith}
 use lib.ListN.{length, getD, take}
-use lib.Seq.{take-suc, take-at}
+use lib.Seq.{take-suc}
 use Rattle.chain.specs.Lists.{keep, from}
 use Rattle.chain.proofs.Lists.{flatMap-none, flatMap-more}
 use Rattle.gradings.specs.Gradings.{grading}
 use Rattle.gradings.specs.declared.Logic.{Logic}
-use Rattle.gradings.proofs.Gradings.{grading-well-formed}
-use Rattle.sections.specs.Terms.{termCount, termsOf, TermsRight}
-use Rattle.sections.proofs.Terms.{length-terms, terms-ordered}
+use Rattle.sections.specs.Terms.{termsOf, TermsRight}
 use Rattle.grades.specs.Rows.{rowOf}
-use Rattle.grades.proofs.Rows.{length-row, row-le}
+use Rattle.grades.proofs.Rows.{row-at-most}
 use Rattle.printout.specs.Text.{bytes, digitByte}
 use Rattle.printout.specs.Lines.{labelled, newline, spaced, typeLine, typeLines, individualLine, individualLines}
 use Rattle.printout.proofs.Decimal.{decimal-small}
@@ -61,21 +59,11 @@ module _ (f : ℕ → List ℕ) where
       go (yes _) e = ap (λ (l : List ℕ). f x ++ l) e
       go (no _) e = e
 
--- ---- a candidate's row, at the front of what code filled
+-- ---- a candidate's row
 
-module _ (lg : Logic) (s : List ℕ) (c : ℕ) where
-  abbrev row : List ℕ
-  row = rowOf (grading lg (termsOf s)) c
-
-  pub row-length : length row ≡ termCount s
-  row-length = length-row (grading lg (termsOf s)) c ∙ length-terms s
-
-  pub row-front : (xs ys : List ℕ) → xs ≡ row ++ ys → take (termCount s) xs ≡ row
-  row-front xs ys e = ap (take (termCount s)) e ∙ take-at row ys (termCount s) row-length
-
-  -- of one-digit grades, where the chain's are
-  pub row-digits : TermsRight s → lg .steps < 10 → (i : ℕ) → getD row i 0 < 10
-  row-digits h l i = omega (arith, row-le (grading lg (termsOf s)) c (grading-well-formed lg (termsOf s) (terms-ordered s h)) i)
+-- of one-digit grades, where the chain's are
+pub row-digits : (lg : Logic) (s : List ℕ) (c : ℕ) → TermsRight s → lg .steps < 10 → (i : ℕ) → getD (rowOf (grading lg (termsOf s)) c) i 0 < 10
+row-digits lg s c h l i = omega (arith, row-at-most lg s c h i)
 
 -- ---- the lines of types, candidate by candidate
 

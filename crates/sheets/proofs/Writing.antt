@@ -3,11 +3,12 @@
 use mathlib.Core.Path.{_≡_, refl, sym, ap, _∙_}
 use mathlib.Core.List.{List, [], _∷_, _++_, flatMap, append-assoc}
 use Prim.Native.Nat.{ℕ, zero, suc, _+_, _*_, _-_, _/_, _%_, _≤_, _<_}
-use native.Mathlib.Nat.{not-suc-le-zero, zero-add, add-zero, mul-zero, zero-mul, suc-mul, mul-suc, div-add-mod', mul-le-mul-left}
+use native.Mathlib.Nat.{mul-suc, div-add-mod', mul-le-mul-left}
 use native.Mathlib.Omega.{arith}
-use lib.ListN.{length, getD, length-append, List·getD-append}
-use lib.Seq.{take-at, drop-at, take-all, getD-append-add}
+use lib.ListN.{length, getD, length-append}
+use lib.Seq.{take-at, drop-at, take-all}
 use Rattle.chain.specs.Lists.{Each, table, from}
+use Rattle.chain.proofs.Blocks.{length-blocks, at-rows}
 use Rattle.chain.proofs.Lists.{each-at, each-table, length-table, getD-table, table-same, flatMap-same}
 use Rattle.semantics.specs.Interpretations.{Interpretation, OnChain, Agree}
 use Rattle.semantics.specs.Books.{Book, Valid, nameCount, roleCount, individuals, RuleModel, MeetsClaims}
@@ -21,28 +22,6 @@ use Rattle.working.specs.Working.{verdictOf}
 use Rattle.sheets.specs.declared.Shape.{Shape}
 use Rattle.working.specs.declared.Verdict.the-variants.{Meets}
 use Rattle.working.proofs.Agreement.{agree-meets}
-
--- ---- blocks of one width, one after another
-
-module _ (f : ℕ → List ℕ) (w : ℕ) (wide : (x : ℕ) → length (f x) ≡ w) where
-  pub length-blocks : (a n : ℕ) → length (flatMap f (from a n)) ≡ n * w
-  unfolding flatMap from
-  length-blocks a zero = sym (zero-mul w)
-  length-blocks a (suc n) = omega (arith, length-append (f a) (flatMap f (from (suc a) n)), wide a, length-blocks (suc a) n, suc-mul n w)
-
-  pub at-blocks : (a n k i : ℕ) → k < n → i < w → getD (flatMap f (from a n)) (w * k + i) 0 ≡ getD (f (a + k)) i 0
-  unfolding flatMap from
-  at-blocks a zero k i h l = absurd (not-suc-le-zero h)
-  at-blocks a (suc n) zero i h l =
-      let e : w * 0 + i ≡ i = omega (arith, mul-zero w) in
-      rw (e, add-zero a) (List·getD-append (f a) (flatMap f (from (suc a) n)) 0 i (omega (arith, wide a)))
-  at-blocks a (suc n) (suc k) i h l =
-      let e : w * suc k + i ≡ length (f a) + (w * k + i) = omega (arith, mul-suc w k, wide a) in
-      let g : a + suc k ≡ suc a + k = omega arith in
-      rw (e, getD-append-add (f a) (flatMap f (from (suc a) n)) (w * k + i) 0, g) (at-blocks (suc a) n k i (omega arith) l)
-
-  pub at-rows : (n k i : ℕ) → k < n → i < w → getD (flatMap f (from 0 n)) (w * k + i) 0 ≡ getD (f k) i 0
-  at-rows n k i h l = at-blocks 0 n k i h l ∙ ap (λ (x : ℕ). getD (f x) i 0) (zero-add k)
 
 module _ (P : ℕ → Type 0) where
   each-append : (xs ys : List ℕ) → Each P xs → Each P ys → Each P (xs ++ ys)

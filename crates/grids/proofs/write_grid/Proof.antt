@@ -7,7 +7,7 @@ use native.Mathlib.Omega.{arith}
 use lib.ListN.{drop, length-take, length}
 use Rattle.grids.specs.Columns.{rowsOf}
 use Rattle.chain.proofs.Blocks.{block-fits}
-use Rattle.grids.proofs.Columns.{fill-none, fill-more}
+use Rattle.grids.proofs.Columns.{rows-none, rows-more}
 use Rattle.grids.proofs.write_grid.Statement.{statement}
 use Rattle.grids.proofs.write_grid.Tie as tie
 
@@ -25,7 +25,7 @@ row-fits c =
     omega (arith, block-fits (s .args .t) (c .before .loop .e) (s .args .n) (c .loop-test .taken), c .before .loop .inv .1, s .pre .3)
 
 loop-holds : tie.Need-loop-holds Inv-loop μ-loop
-loop-holds c = (omega arith, omega arith, fill-none _ _ _)
+loop-holds c = (omega arith, omega arith, rows-none _ _ _)
 
 mul-start : tie.Need-mul-start Inv-loop μ-loop
 mul-start c = omega (arith, row-fits c)
@@ -63,7 +63,7 @@ loop-again c =
     let t = c .before .before .before .before .before .loop in (
       omega (arith, c .before .before .before .before .loop-test .taken),
       c .before .grid .given .1 ∙ t .inv .1,
-      fill-more (s .args .values .now) (s .args .t) (t .e) (t .grid) (s .args .grid .now) (c .before .before .write-row .last .1 .1 .0) (t .inv .2)
+      rows-more (s .args .values .now) (s .args .t) (t .e) (t .grid) (s .args .grid .now) (c .before .before .write-row .last .1 .1 .0) (t .inv .2)
           (row-fits (c .before .before .before .before)) (c .before .before .write-row .ensures),
     )
 

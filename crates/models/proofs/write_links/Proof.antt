@@ -11,7 +11,8 @@ use Rattle.chain.proofs.Blocks.{block-fits}
 use Rattle.chain.specs.Lists.{from}
 use Rattle.sections.specs.Terms.{termsOf}
 use Rattle.models.specs.Rows.{squareBy, linksBy}
-use Rattle.models.proofs.Filling.{length-part, blocks-none, blocks-next, whole}
+use Rattle.chain.proofs.Blocks.{fill-none}
+use Rattle.models.proofs.Filling.{length-part, blocks-next, whole}
 use Rattle.models.proofs.Rows.{length-square}
 use Rattle.models.proofs.write_links.Statement.{statement}
 use Rattle.models.proofs.write_links.Tie as tie
@@ -37,7 +38,7 @@ loop-holds c =
     let s = c .before .before .before in (
       omega arith,
       omega arith,
-      blocks-none (squareBy (s .args .logic) (termsOf (s .args .terms .now)) (s .args .rows .now) (s .args .n)) (s .args .n * s .args .n)
+      fill-none (squareBy (s .args .logic) (termsOf (s .args .terms .now)) (s .args .rows .now) (s .args .n)) (s .args .n * s .args .n)
           (length-square (s .args .logic) (termsOf (s .args .terms .now)) (s .args .rows .now) (s .args .n)) (s .args .body .now),
     )
 

@@ -10,7 +10,8 @@ use Rattle.chain.proofs.Blocks.{block-fits}
 use Rattle.chain.specs.Lists.{table, from}
 use Rattle.sections.specs.Terms.{termsOf}
 use Rattle.models.specs.Rows.{nameIn, namesBy}
-use Rattle.models.proofs.Filling.{length-part, blocks-none, blocks-next, whole}
+use Rattle.chain.proofs.Blocks.{fill-none}
+use Rattle.models.proofs.Filling.{length-part, blocks-next, whole}
 use Rattle.grades.proofs.Rows.{length-rowAt}
 use Rattle.models.proofs.Rows.{nameRow, length-nameRow}
 use Rattle.models.proofs.write_names.Statement.{statement}
@@ -36,7 +37,7 @@ loop-holds c =
     let s = c .before .before .before in (
       omega arith,
       omega arith,
-      blocks-none (nameRow (termsOf (s .args .terms .now)) (s .args .rows .now) (s .args .names)) (s .args .names)
+      fill-none (nameRow (termsOf (s .args .terms .now)) (s .args .rows .now) (s .args .names)) (s .args .names)
           (length-nameRow (termsOf (s .args .terms .now)) (s .args .rows .now) (s .args .names)) (s .args .body .now),
     )
 

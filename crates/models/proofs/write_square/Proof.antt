@@ -10,7 +10,8 @@ use Rattle.chain.proofs.Blocks.{block-fits}
 use Rattle.chain.specs.Lists.{table, from}
 use Rattle.sections.specs.Terms.{termsOf}
 use Rattle.models.specs.Rows.{squareBy, linkIn}
-use Rattle.models.proofs.Filling.{length-part, blocks-none, blocks-next, whole}
+use Rattle.chain.proofs.Blocks.{fill-none}
+use Rattle.models.proofs.Filling.{length-part, blocks-next, whole}
 use Rattle.models.proofs.Rows.{linkRow, length-linkRow}
 use Rattle.models.proofs.write_square.Statement.{statement}
 use Rattle.models.proofs.write_square.Tie as tie
@@ -35,7 +36,7 @@ loop-holds c =
     let s = c .before .before .before in (
       omega arith,
       omega arith,
-      blocks-none (linkRow (s .args .logic) (termsOf (s .args .terms .now)) (s .args .rows .now) (s .args .n) (s .args .role)) (s .args .n)
+      fill-none (linkRow (s .args .logic) (termsOf (s .args .terms .now)) (s .args .rows .now) (s .args .n) (s .args .role)) (s .args .n)
           (length-linkRow (s .args .logic) (termsOf (s .args .terms .now)) (s .args .rows .now) (s .args .n) (s .args .role)) (s .args .body .now),
     )
 

@@ -5,7 +5,8 @@ use native.Mathlib.Omega.{arith}
 use lib.Seq.{length-take-le}
 use borrow.Author.Needs.{needs}
 use Rattle.printout.specs.Lines.{typeLine}
-use Rattle.printout.proofs.Lines.{row-length, row-front, row-digits}
+use Rattle.grades.proofs.Rows.{row-length, row-front}
+use Rattle.printout.proofs.Lines.{row-digits}
 use Rattle.printout.proofs.Adding.{added-same}
 use Rattle.printout.proofs.type_line.Statement.{statement}
 use Rattle.printout.proofs.type_line.Tie as tie
