@@ -56,14 +56,10 @@ abbrev pub decisionNumber : Decision → Option ℕ
 decisionNumber (Refused n) = some n
 decisionNumber (Decided o k) = none
 
--- its outcome and its number of survivors; 0 for a refusal
+-- its outcome; 0 for a refusal (its number of survivors is `survivorsIn` of outcomes)
 abbrev pub outcomeIn : Decision → ℕ
 outcomeIn (Refused n) = 0
 outcomeIn (Decided o k) = o
-
-abbrev pub survivorsIn : Decision → ℕ
-survivorsIn (Refused n) = 0
-survivorsIn (Decided o k) = k
 
 -- ---- "Words of demand 3"
 

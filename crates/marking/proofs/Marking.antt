@@ -65,6 +65,9 @@ module _ (B : Book) (qs : List Question) (marks : List ℕ) where
     pub mark-listed : (c : ℕ) → c < k → Marked after c ↔ Mem c (marked after k)
     mark-listed c h = (λ e. marked-mem after k c .1 (h, e), λ m. marked-mem after k c .0 m .1)
 
+    pub survivor-marked : (c : ℕ) → Mem c (survivorsOf B) → Marked after c
+    survivor-marked c m = marked-mem after k c .0 (subst (Mem c) (sym listed-are) m) .1
+
     pub mark-bit : (c : ℕ) → c < k → (getD after c 0 ≡ 0) ⊎ (getD after c 0 ≡ 1)
     unfolding marksOf
     mark-bit c h =

@@ -3,13 +3,13 @@
 use mathlib.Core.Path.{_≡_, refl, _∙_}
 use mathlib.Core.List.{List, [], _++_, flatMap, append-nil, append-assoc}
 use Prim.Native.Nat.{ℕ, _+_, _*_, _-_, _≤_}
-use native.Mathlib.Nat.{zero-add, zero-mul, suc-mul}
+use native.Mathlib.Nat.{zero-add, suc-mul}
 use native.Mathlib.Numerals.{add-one}
 use native.Mathlib.Omega.{arith}
 use lib.ListN.{length, take, drop, length-append, length-drop, length-take}
 use lib.Seq.{take-at, drop-at, drop-drop, drop-length, sets, sets-eq}
 use Rattle.chain.specs.Lists.{from}
-use Rattle.chain.proofs.Lists.{flatMap-none, flatMap-more}
+use Rattle.chain.proofs.Lists.{flatMap-more}
 use Rattle.chain.proofs.Blocks.{length-blocks}
 
 -- what a list becomes when its stretch from a up to c is written anew

@@ -18,7 +18,7 @@ use Rattle.placement.specs.Dictionary.{Finds}
 use Rattle.placement.proofs.Outcome.{placement-finds}
 use Rattle.placer.specs.Walk.{placed}
 use Rattle.placer.proofs.Walk.{placed-true, placed-false}
-use Rattle.outcomes.specs.Decided.{decision, placedIn}
+use Rattle.outcomes.specs.Decided.{decision, placedIn, decisionIf, placedIf}
 use Rattle.outcomes.specs.declared.Decision.the-variants.{Decided}
 
 -- ---- the outcome
@@ -65,6 +65,14 @@ module _ (B : Book) where
         go : (xs : List ℕ) → 0 < length xs → 1 ≡ outcomeOf B xs (placement B)
         go [] h = absurd (omega arith)
         go (x ∷ xs) h = ap (outcomeOf B (x ∷ xs)) some-is
+
+  -- ---- deciding, or marking alone
+
+  pub marks-alone : (d : Bool) → d ≡ false → (Decided 0 (length (survivorsOf B)) ≡ decisionIf d B) × ((buffer : List ℕ) → buffer ≡ placedIf d B buffer)
+  marks-alone d e = rw e (refl, λ buffer. refl)
+
+  pub decides : (d : Bool) → d ≡ true → (decision B ≡ decisionIf d B) × ((buffer : List ℕ) → placedIn (placement B) buffer ≡ placedIf d B buffer)
+  decides d e = rw e (refl, λ buffer. refl)
 
 -- ---- the placement's bytes
 

@@ -1,5 +1,6 @@
 // Decides an accepted book, where its buffers suffice: the survivors by elimination, then the first placement of its individuals at them.
 ghost use mathlib.Core.Path.{_≡_};
+ghost use mathlib.Core.Bool.{true};
 ghost use mathlib.Core.List.{_++_, flatMap};
 ghost use Prim.Native.Nat.{_*_, _<_, _≤_};
 ghost use lib.ListN.{length, take, drop};
@@ -14,7 +15,7 @@ ghost use Rattle.placement.specs.Outcome.{placement as placementOf, outcome};
 ghost use Rattle.placer.specs.Walk.{placed};
 ghost use Rattle.marking.specs.Equipped.{Equipped};
 ghost use Rattle.marking.specs.Marking.{markedIn};
-ghost use Rattle.outcomes.specs.Decided.{decision, placedIn};
+ghost use Rattle.outcomes.specs.Decided.{decision, survivorsIn, placedIn, decisionIf, placedIf};
 use gradings::Logic;
 use layout::Sections;
 
@@ -111,6 +112,35 @@ fn place_checked(b: &[u8], s: Sections, count: usize, marks: &[u8], placement: &
     place_individuals(b, s, logic, &slots[..4 * m], count, marks, placement)
 }
 
+// ---- marking and placing: one function for both, since eliminating and placing are never at work at once, and share its stack
+
+// Marks the survivors, and decides if that is asked.
+fn decide_by(
+    b: &[u8],
+    s: Sections,
+    count: usize,
+    deciding: bool,
+    marks: &mut [u8],
+    placement: &mut [u8],
+) -> Decision
+    requires { ⌜ Right (now b) s ⌝ }
+    requires { ⌜ (candidates (bookOf (now b) .grading) ≡ count) × (count ≤ 16384) × (count ≤ length (now marks)) ⌝ }
+    requires { ⌜ (deciding ≡ true → 16 ≤ length (now placement)) ⌝ }
+    ensures { λ r. ⌜ r ≡ decisionIf deciding (bookOf (now (b .entry))) ⌝ }
+    ensures { λ _. ⌜ now (marks .exit) ≡ markedIn (bookOf (now (b .entry))) (now (marks .entry)) ⌝ }
+    ensures { λ _. ⌜ now (placement .exit) ≡ placedIf deciding (bookOf (now (b .entry))) (now (placement .entry)) ⌝ }
+{
+    let survivors = marking::mark(b, s, count, marks);
+    if !deciding {
+        return Decision::Decided(0, survivors);
+    }
+    if survivors == 0 {
+        return Decision::Decided(3, 0);
+    }
+    let outcome = place_checked(b, s, count, marks, placement);
+    Decision::Decided(outcome, survivors)
+}
+
 // Decides, where every check says yes.
 pub fn decide_checked(
     b: &[u8],
@@ -126,10 +156,26 @@ pub fn decide_checked(
     ensures { λ _. ⌜ now (marks .exit) ≡ markedIn (bookOf (now (b .entry))) (now (marks .entry)) ⌝ }
     ensures { λ _. ⌜ now (placement .exit) ≡ placedIn (placementOf (bookOf (now (b .entry)))) (now (placement .entry)) ⌝ }
 {
-    let survivors = marking::mark(b, s, count, marks);
-    if survivors == 0 {
-        return Decision::Decided(3, 0);
+    decide_by(b, s, count, true, marks, placement)
+}
+
+// The number of survivors in an answer.
+fn survivors_in(d: Decision) -> usize
+    ensures { λ r. ⌜ r ≡ survivorsIn d ⌝ }
+{
+    match d {
+        Decision::Refused(_) => 0,
+        Decision::Decided(_, survivors) => survivors,
     }
-    let outcome = place_checked(b, s, count, marks, placement);
-    Decision::Decided(outcome, survivors)
+}
+
+// Marks the survivors, and counts them, for a call that places nobody.
+pub fn mark_checked(b: &[u8], s: Sections, count: usize, marks: &mut [u8]) -> usize
+    requires { ⌜ Right (now b) s ⌝ }
+    requires { ⌜ (candidates (bookOf (now b) .grading) ≡ count) × (count ≤ 16384) × (count ≤ length (now marks)) ⌝ }
+    ensures { λ r. ⌜ r ≡ length (survivorsOf (bookOf (now (b .entry)))) ⌝ }
+    ensures { λ _. ⌜ now (marks .exit) ≡ markedIn (bookOf (now (b .entry))) (now (marks .entry)) ⌝ }
+{
+    let mut nobody = [0u8; 1];
+    survivors_in(decide_by(b, s, count, false, marks, &mut nobody))
 }
