@@ -63,6 +63,30 @@ first-both qs rs e = go (firstNo qs) refl
     go none f = (f, sym (first-none-append qs rs f) ∙ e)
     go (some n) f = let z = sym (first-some-append qs rs n f) ∙ e in let y : _≡_ {A = ℕ} 0 1 = cc in absurd (omega arith)
 
+-- two questions more, which most calls have of their own
+module _ (qs : List Question) {A B : Type 0} (m n : ℕ) (d : Dec A) (e : Dec B) where
+  abbrev further : List Question
+  further = qs ++ (ask m d ∷ ask n e ∷ [])
+
+  pub two-before : (k : ℕ) → firstNo qs ≡ some k → firstNo further ≡ some k
+  two-before = first-some-append qs (ask m d ∷ ask n e ∷ [])
+
+  pub two-first : firstNo qs ≡ none → ¬ A → firstNo further ≡ some m
+  two-first h a = first-none-append qs _ h ∙ first-no m d _ a
+
+  pub two-second : firstNo qs ≡ none → A → ¬ B → firstNo further ≡ some n
+  two-second h a b = first-none-append qs _ h ∙ first-yes m d _ a ∙ first-no n e [] b
+
+  pub two-none : firstNo qs ≡ none → A → B → firstNo further ≡ none
+  two-none h a b = first-none-append qs _ h ∙ first-yes m d _ a ∙ first-yes n e [] b ∙ first-empty
+
+  -- and back
+  pub two-both : firstNo further ≡ none → (firstNo qs ≡ none) × A × B
+  two-both h =
+      let u = first-both qs (ask m d ∷ ask n e ∷ []) h in
+      let v = first-none m d (ask n e ∷ []) (u .1) in
+      (u .0, v .0, first-none n e [] (v .1) .0)
+
 -- ---- as a number, 0 where there is none
 
 first-above : (qs : List Question) → Numbered qs → (n : ℕ) → firstNo qs ≡ some n → 0 < n

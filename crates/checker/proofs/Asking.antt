@@ -1,12 +1,12 @@
 -- Laws of the two questions: which checks that were made give which answer; and what an accepted book's section of terms gives the code that
 -- works out grades by it.
 -- Assumes nothing.
-use mathlib.Core.Path.{_≡_, refl, _∙_}
+use mathlib.Core.Path.{_≡_, refl}
 use mathlib.Core.Option.{none, some}
 use mathlib.Core.List.{List, [], _∷_, _++_}
 use Prim.Native.Nat.{ℕ, _≤_}
 use Rattle.chain.specs.Questions.{Question, ask, firstNo}
-use Rattle.chain.proofs.Questions.{first-empty, first-yes, first-no, first-some-append, first-none-append}
+use Rattle.chain.proofs.Questions.{two-before, two-first, two-second, two-none}
 use Rattle.chain.proofs.Answers.{answer-value, answer-refused, answer-number}
 use Rattle.sections.specs.Terms.{termCount, TermsRight}
 use Rattle.layout.specs.Layout.{termBytes, termsIn}
@@ -39,16 +39,16 @@ module _ (g : ℕ) (qs : List Question) {A B : Type 0} (m n : ℕ) (d : Dec A) (
   asked = qs ++ (ask m d ∷ ask n e ∷ [])
 
   pub graded-before : (k : ℕ) → firstNo qs ≡ some k → gradedBy g asked ≡ Refused k
-  graded-before k h = graded-no g asked k (first-some-append qs _ k h)
+  graded-before k h = graded-no g asked k (two-before qs m n d e k h)
 
   pub graded-first : firstNo qs ≡ none → ¬ A → gradedBy g asked ≡ Refused m
-  graded-first h a = graded-no g asked m (first-none-append qs _ h ∙ first-no m d _ a)
+  graded-first h a = graded-no g asked m (two-first qs m n d e h a)
 
   pub graded-second : firstNo qs ≡ none → A → ¬ B → gradedBy g asked ≡ Refused n
-  graded-second h a b = graded-no g asked n (first-none-append qs _ h ∙ first-yes m d _ a ∙ first-no n e _ b)
+  graded-second h a b = graded-no g asked n (two-second qs m n d e h a b)
 
   pub graded-both : firstNo qs ≡ none → A → B → gradedBy g asked ≡ Grade g
-  graded-both h a b = graded-is g asked (first-none-append qs _ h ∙ first-yes m d _ a ∙ first-yes n e _ b ∙ first-empty)
+  graded-both h a b = graded-is g asked (two-none qs m n d e h a b)
 
 -- the section of terms, as code is handed it
 pub terms-fit : (b : List ℕ) (s : Sections) → Right b s → (ts : List ℕ) → ts ≡ termBytes b s → TermsRight ts × (termCount ts ≡ termsIn s) × (termsIn s ≤ 64)

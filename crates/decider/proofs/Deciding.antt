@@ -1,6 +1,6 @@
 -- Laws of deciding: which checks that were made give which answer, marks and placement.
 -- Assumes nothing.
-use mathlib.Core.Path.{_≡_, refl, sym, ap, _∙_}
+use mathlib.Core.Path.{_≡_, refl, sym, ap}
 use mathlib.Core.Option.{Option, none, some}
 use mathlib.Core.List.{List, [], _∷_}
 use Prim.Native.Nat.{ℕ, _≤_}
@@ -8,7 +8,7 @@ use native.Mathlib.Decide.{decLe}
 use lib.ListN.{length}
 use Rattle.chain.specs.Questions.{Question, firstNo}
 use Rattle.chain.specs.Answers.{answerBy}
-use Rattle.chain.proofs.Questions.{first-empty, first-yes, first-no, first-none, first-some-append, first-none-append}
+use Rattle.chain.proofs.Questions.{two-before, two-first, two-second, two-none, two-both}
 use Rattle.chain.proofs.Answers.{answer-value, answer-refused, answer-number, answer-no, answer-yes}
 use Rattle.semantics.specs.Books.{Book}
 use Rattle.types.specs.Candidates.{candidates}
@@ -26,22 +26,27 @@ use Rattle.outcomes.specs.declared.Decision.the-variants.{Refused, Decided}
 -- ---- the first no
 
 module _ (b : List ℕ) (m p : ℕ) where
-  pub decide-before : (n : ℕ) → firstNo (candidateQuestions b) ≡ some n → firstNo (decideQuestions b m p) ≡ some n
-  decide-before n e = first-some-append (candidateQuestions b) _ n e
+  abbrev qs : List Question
+  qs = candidateQuestions b
 
-  module _ (counted : firstNo (candidateQuestions b) ≡ none) where
-    pub decide-11 : ¬ (candidates (bookOf b .grading) ≤ m) → firstNo (decideQuestions b m p) ≡ some 11
-    decide-11 n = first-none-append (candidateQuestions b) _ counted ∙ first-no 11 (decLe (candidates (bookOf b .grading)) m) _ n
+  abbrev marks? : Dec (candidates (bookOf b .grading) ≤ m)
+  marks? = decLe (candidates (bookOf b .grading)) m
 
-    module _ (room : candidates (bookOf b .grading) ≤ m) where
-      pub decide-12 : ¬ (16 ≤ p) → firstNo (decideQuestions b m p) ≡ some 12
-      decide-12 n =
-          first-none-append (candidateQuestions b) _ counted ∙ first-yes 11 (decLe (candidates (bookOf b .grading)) m) _ room ∙ first-no 12 (decLe 16 p) [] n
+  pub decide-before : (n : ℕ) → firstNo qs ≡ some n → firstNo (decideQuestions b m p) ≡ some n
+  decide-before = two-before qs 11 12 marks? (decLe 16 p)
 
-      pub decide-none : 16 ≤ p → firstNo (decideQuestions b m p) ≡ none
-      decide-none h =
-          first-none-append (candidateQuestions b) _ counted ∙ first-yes 11 (decLe (candidates (bookOf b .grading)) m) _ room
-          ∙ first-yes 12 (decLe 16 p) [] h ∙ first-empty
+  pub decide-11 : firstNo qs ≡ none → ¬ (candidates (bookOf b .grading) ≤ m) → firstNo (decideQuestions b m p) ≡ some 11
+  decide-11 = two-first qs 11 12 marks? (decLe 16 p)
+
+  pub decide-12 : firstNo qs ≡ none → candidates (bookOf b .grading) ≤ m → ¬ (16 ≤ p) → firstNo (decideQuestions b m p) ≡ some 12
+  decide-12 = two-second qs 11 12 marks? (decLe 16 p)
+
+  pub decide-none : firstNo qs ≡ none → candidates (bookOf b .grading) ≤ m → 16 ≤ p → firstNo (decideQuestions b m p) ≡ none
+  decide-none = two-none qs 11 12 marks? (decLe 16 p)
+
+  -- what it takes that none says no
+  pub decide-both : firstNo (decideQuestions b m p) ≡ none → (firstNo qs ≡ none) × (candidates (bookOf b .grading) ≤ m) × (16 ≤ p)
+  decide-both = two-both qs 11 12 marks? (decLe 16 p)
 
 -- ---- the answer and the buffers, by it
 
@@ -73,10 +78,6 @@ module _ (B : Book) (qs : List Question) where
   pub decisionNumber-is : decisionNumber (decisionBy B qs) ≡ firstNo qs
   unfolding decisionBy
   decisionNumber-is = answer-number Refused _ qs decisionNumber (λ n. refl) refl
-
--- where none says no there is room for the marks
-pub decide-room : (b : List ℕ) (m p : ℕ) → firstNo (candidateQuestions b) ≡ none → firstNo (decideQuestions b m p) ≡ none → candidates (bookOf b .grading) ≤ m
-decide-room b m p counted e = first-none 11 (decLe (candidates (bookOf b .grading)) m) _ (sym (first-none-append (candidateQuestions b) _ counted) ∙ e) .0
 
 -- "for outcome 1 only": without it the buffer keeps its contents
 pub kept-without-outcome-1 : (B : Book) (qs : List Question) (buffer : List ℕ) → ¬ (outcome B ≡ 1) → placementBy B qs buffer ≡ buffer

@@ -4,7 +4,6 @@ use mathlib.Core.Path.{_≡_, refl, sym, ap, _∙_}
 use mathlib.Core.Option.{Option, none, some}
 use mathlib.Core.List.{List, [], _∷_, _++_, flatMap}
 use Prim.Native.Nat.{ℕ, zero, suc, _+_, _*_, _≤_, _<_}
-use native.Mathlib.Decide.{decLe}
 use native.Mathlib.Omega.{arith}
 use lib.ListN.{length, getD, drop, length-append, length-drop}
 use lib.Seq.{drop-at, ext-getD}
@@ -18,7 +17,7 @@ use Rattle.encoding.specs.Words.{wordAt, wordBytes}
 use Rattle.layout.specs.Layout.{sectionsOf}
 use Rattle.book.specs.Reading.{bookOf}
 use Rattle.book.specs.Opening.{Accepts, bookQuestions}
-use Rattle.counter.specs.Counting.{candidateQuestions, fewCandidates?}
+use Rattle.counter.specs.Counting.{fewCandidates?}
 use Rattle.book.proofs.Opening.{accepts-right}
 use Rattle.book.proofs.Reading.{right-individuals}
 use Rattle.elimination.specs.Listed.{typesIn}
@@ -32,7 +31,7 @@ use Rattle.marking.proofs.Marking.{marks-are, listed-are, marks-kept, marks-len
 use Rattle.outcomes.specs.Decided.{decision, placedIn, survivorsIn}
 use Rattle.decider.specs.Deciding.{decisionBy, placementBy, decisionOf, marksAfter, placementAfter, Decidable, outcomeIn, placementIn}
 use Rattle.outcomes.proofs.Decided.{length-words}
-use Rattle.decider.proofs.Deciding.{decide-none, settled}
+use Rattle.decider.proofs.Deciding.{decide-none, decide-both, settled}
 
 -- ---- two bytes make a number
 
@@ -56,14 +55,13 @@ pub record Suffices (b : List ℕ) (m p : ℕ) : Type 0 where
 pub decidable-suffices : (b : List ℕ) (m p : ℕ) → Decidable b m p → Suffices b m p
 unfolding Accepts
 decidable-suffices b m p d =
-    let u = first-both (candidateQuestions b) _ d in
+    let u = decide-both b m p d in
     let v = first-both (bookQuestions b) _ (u .0) in
-    let room = first-none 11 (decLe (candidates (bookOf b .grading)) m) _ (u .1) in
     record {
       accepted = v .0;
       few = first-none 10 (fewCandidates? (bookOf b)) [] (v .1) .0;
-      marks-suffice = room .0;
-      placement-suffices = first-none 12 (decLe 16 p) [] (room .1) .0;
+      marks-suffice = u .1;
+      placement-suffices = u .2;
     }
 
 pub suffices-decidable : (b : List ℕ) (m p : ℕ) → Suffices b m p → Decidable b m p
