@@ -4,16 +4,21 @@
 use mathlib.Core.Path.{_≡_, refl}
 use mathlib.Core.Option.{none, some}
 use mathlib.Core.List.{List, [], _∷_, _++_}
-use Prim.Native.Nat.{ℕ, _≤_}
+use Prim.Native.Nat.{ℕ, _≤_, _<_}
+use native.Mathlib.Decide.{decLt}
+use lib.ListN.{length}
 use Rattle.chain.specs.Questions.{Question, ask, firstNo}
 use Rattle.chain.proofs.Questions.{two-before, two-first, two-second, two-none}
 use Rattle.chain.proofs.Answers.{answer-value, answer-refused, answer-number}
 use Rattle.sections.specs.Terms.{termCount, TermsRight}
 use Rattle.layout.specs.Layout.{termBytes, termsIn}
+use Rattle.types.specs.Candidates.{candidates}
 use Rattle.book.specs.Opening.{Right}
+use Rattle.book.specs.Reading.{bookOf}
+use Rattle.counter.specs.Counting.{candidateQuestions}
 use Rattle.layout.specs.declared.Sections.{Sections}
 use Rattle.book.proofs.Reading.{right-terms, right-few}
-use Rattle.checker.specs.Asking.{gradedBy, answerNumber}
+use Rattle.checker.specs.Asking.{gradeQuestions, gradedBy, answerNumber}
 use Rattle.checker.specs.declared.Answer.the-variants.{Refused, Grade}
 
 -- ---- a grade, after questions
@@ -53,3 +58,8 @@ module _ (g : ℕ) (qs : List Question) {A B : Type 0} (m n : ℕ) (d : Dec A) (
 -- the section of terms, as code is handed it
 pub terms-fit : (b : List ℕ) (s : Sections) → Right b s → (ts : List ℕ) → ts ≡ termBytes b s → TermsRight ts × (termCount ts ≡ termsIn s) × (termsIn s ≤ 64)
 terms-fit b s ok ts are = (rw are (ok .terms-right), rw are (right-terms b s ok), right-few b s ok)
+
+-- no question says no to a candidate and a term that there are
+pub grade-none : (b : List ℕ) → firstNo (candidateQuestions b) ≡ none → (c i : ℕ) → c < candidates (bookOf b .grading) → i < length (bookOf b .grading .terms)
+    → firstNo (gradeQuestions b c i) ≡ none
+grade-none b h c i = two-none (candidateQuestions b) 20 21 (decLt c (candidates (bookOf b .grading))) (decLt i (length (bookOf b .grading .terms))) h

@@ -4,6 +4,7 @@ pub mod Demand2
 pub mod Demand3
 pub mod Roles
 pub mod Sets
+pub mod Implied
 pub mod Written
 pub mod Readings
 pub mod Printed

@@ -8,10 +8,12 @@ ghost use Rattle.counter.specs.Counting.{countedOf};
 ghost use Rattle.checker.specs.Asking.{gradeAnswer, linkAnswer};
 ghost use Rattle.checker.specs.Working.{workedOf, gridAfter};
 ghost use Rattle.decider.specs.Deciding.{decisionOf, marksAfter, placementAfter};
+ghost use Rattle.implied.specs.Implying.{impliedOf, tableMarksAfter, tableAfter};
 ghost use Rattle.writer.specs.Writing.{writtenOf, sheetAfter};
 use checker::Answer;
 use checker::Worked;
 use counter::Counted;
+use implied::Implied;
 use layout::Sections;
 use outcomes::Decision;
 use writer::Written;
@@ -70,6 +72,16 @@ impl<'a> Book<'a> {
         ensures { λ _. ⌜ now (placement .exit) ≡ placementAfter (now (self .entry .bytes)) (length (now (marks .entry))) (now (placement .entry)) ⌝ }
     {
         decider::decide_in(self.bytes, self.sections, marks, placement)
+    }
+
+    // The table of implied rules.
+    pub fn implied_rules<'b, 'c>(self, marks: &'b mut [u8], table: &'c mut [u8]) -> Implied
+        requires { ⌜ Right (now (self .bytes)) (self .sections) ⌝ }
+        ensures { λ r. ⌜ r ≡ impliedOf (now (self .entry .bytes)) (length (now (marks .entry))) (length (now (table .entry))) ⌝ }
+        ensures { λ _. ⌜ now (marks .exit) ≡ tableMarksAfter (now (self .entry .bytes)) (length (now (table .entry))) (now (marks .entry)) ⌝ }
+        ensures { λ _. ⌜ now (table .exit) ≡ tableAfter (now (self .entry .bytes)) (length (now (marks .entry))) (now (table .entry)) ⌝ }
+    {
+        implied::implied_in(self.bytes, self.sections, marks, table)
     }
 
     // Decides, and writes the sheet of the model.

@@ -8,6 +8,8 @@ use Rattle.counter.specs.declared.Counted.{Counted}
 use Rattle.counter.specs.declared.Counted.the-variants.{Refused as NotCounted, Candidates}
 use Rattle.outcomes.specs.declared.Decision.{Decision}
 use Rattle.outcomes.specs.declared.Decision.the-variants.{Refused as NotDecided, Decided}
+use Rattle.implied.specs.declared.Implied.{Implied}
+use Rattle.implied.specs.declared.Implied.the-variants.{Refused as NotImplied, Survivors}
 use Rattle.writer.specs.declared.Written.{Written}
 use Rattle.writer.specs.declared.Written.the-variants.{Refused as NotWritten, Sheet}
 use Rattle.working.specs.declared.Verdict.{Verdict}
@@ -18,6 +20,7 @@ use Rattle.checker.specs.declared.Answer.{Answer}
 use Rattle.checker.specs.declared.Answer.the-variants.{Refused as NotGraded, Grade}
 use Rattle.zegbiko.specs.declared.CountedNumbers.{CountedNumbers}
 use Rattle.zegbiko.specs.declared.DecidedNumbers.{DecidedNumbers}
+use Rattle.zegbiko.specs.declared.ImpliedNumbers.{ImpliedNumbers}
 use Rattle.zegbiko.specs.declared.WrittenNumbers.{WrittenNumbers}
 use Rattle.zegbiko.specs.declared.WorkedNumbers.{WorkedNumbers}
 use Rattle.zegbiko.specs.declared.GradedNumbers.{GradedNumbers}
@@ -33,6 +36,10 @@ countedNumbers (Candidates k) = record { refusal = 0; candidates = k }
 abbrev pub decidedNumbers : Decision → DecidedNumbers
 decidedNumbers (NotDecided n) = record { refusal = n; outcome = 0; survivors = 0 }
 decidedNumbers (Decided o k) = record { refusal = 0; outcome = o; survivors = k }
+
+abbrev pub impliedNumbers : Implied → ImpliedNumbers
+impliedNumbers (NotImplied n) = record { refusal = n; survivors = 0 }
+impliedNumbers (Survivors k) = record { refusal = 0; survivors = k }
 
 abbrev pub writtenNumbers : Written → WrittenNumbers
 writtenNumbers (NotWritten n) = record { refusal = n; length = 0 }

@@ -20,6 +20,10 @@ use Rattle.decider.specs.Deciding.{decideQuestions, decisionOf, decisionNumber}
 use Rattle.outcomes.specs.declared.Decision.{Decision}
 use Rattle.outcomes.specs.declared.Decision.the-variants.{Refused as NotDecided, Decided}
 use Rattle.decider.proofs.Deciding.{decisionNumber-is}
+use Rattle.implied.specs.Implying.{impliedQuestions, impliedOf, impliedNumber}
+use Rattle.implied.specs.declared.Implied.{Implied}
+use Rattle.implied.specs.declared.Implied.the-variants.{Refused as NotImplied, Survivors}
+use Rattle.implied.proofs.Implying.{impliedNumber-is}
 use Rattle.writer.specs.Writing.{writeQuestions, writtenOf, writtenNumber}
 use Rattle.writer.specs.declared.Written.{Written}
 use Rattle.writer.specs.declared.Written.the-variants.{Refused as NotWritten, Sheet}
@@ -33,7 +37,7 @@ use Rattle.checker.specs.declared.Answer.{Answer}
 use Rattle.checker.specs.declared.Answer.the-variants.{Refused as NotGraded, Grade}
 use Rattle.checker.proofs.Working.{workedNumber-is}
 use Rattle.checker.proofs.Asking.{answerNumber-is}
-use Rattle.zegbiko.specs.Numbers.{checkedNumber, countedNumbers, decidedNumbers, writtenNumbers, workedNumbers, gradedNumbers}
+use Rattle.zegbiko.specs.Numbers.{checkedNumber, countedNumbers, decidedNumbers, impliedNumbers, writtenNumbers, workedNumbers, gradedNumbers}
 
 pub check-tells : (b : List ℕ) → TellsFirstNo (bookQuestions b) (checkedNumber (openedOf b))
 unfolding says dec-and each? decLt
@@ -58,6 +62,14 @@ decide-tells b m p = tells-first-no _ _ refl (go (decisionOf b m p) ∙ ap orZer
     go : (a : Decision) → decidedNumbers a .refusal ≡ orZero (decisionNumber a)
     go (NotDecided n) = refl
     go (Decided o k) = refl
+
+pub implied-tells : (b : List ℕ) (m t : ℕ) → TellsFirstNo (impliedQuestions b m t) (impliedNumbers (impliedOf b m t) .refusal)
+unfolding says dec-and each? decLt
+implied-tells b m t = tells-first-no _ _ refl (go (impliedOf b m t) ∙ ap orZero (impliedNumber-is _ _))
+  where
+    go : (a : Implied) → impliedNumbers a .refusal ≡ orZero (impliedNumber a)
+    go (NotImplied n) = refl
+    go (Survivors k) = refl
 
 pub write-tells : (b : List ℕ) (m p t : ℕ) → TellsFirstNo (writeQuestions b m p t) (writtenNumbers (writtenOf b m p t) .refusal)
 unfolding says dec-and each? decLt

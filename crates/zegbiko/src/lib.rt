@@ -7,12 +7,14 @@ ghost use Rattle.counter.specs.Counting.{countedOf};
 ghost use Rattle.checker.specs.Asking.{gradeAnswer, linkAnswer};
 ghost use Rattle.checker.specs.Working.{workedOf, gridAfter};
 ghost use Rattle.decider.specs.Deciding.{decisionOf, marksAfter, placementAfter};
+ghost use Rattle.implied.specs.Implying.{impliedOf, tableMarksAfter, tableAfter};
 ghost use Rattle.writer.specs.Writing.{writtenOf, sheetAfter};
-ghost use Rattle.zegbiko.specs.Numbers.{checkedNumber, countedNumbers, decidedNumbers, writtenNumbers, verdictNumbers, workedNumbers, gradedNumbers};
+ghost use Rattle.zegbiko.specs.Numbers.{checkedNumber, countedNumbers, decidedNumbers, impliedNumbers, writtenNumbers, verdictNumbers, workedNumbers, gradedNumbers};
 use book::Opened;
 use checker::Answer;
 use checker::Worked;
 use counter::Counted;
+use implied::Implied;
 use outcomes::Decision;
 use working::Verdict;
 use writer::Written;
@@ -29,6 +31,12 @@ pub struct CountedNumbers {
 pub struct DecidedNumbers {
     pub refusal: u8,
     pub outcome: u8,
+    pub survivors: usize,
+}
+
+#[repr(C)]
+pub struct ImpliedNumbers {
+    pub refusal: u8,
     pub survivors: usize,
 }
 
@@ -93,6 +101,21 @@ fn decided_numbers(a: Decision) -> DecidedNumbers
         Decision::Decided(outcome, survivors) => DecidedNumbers {
             refusal: 0,
             outcome,
+            survivors,
+        },
+    }
+}
+
+fn implied_numbers(a: Implied) -> ImpliedNumbers
+    ensures { λ r. ⌜ r ≡ impliedNumbers a ⌝ }
+{
+    match a {
+        Implied::Refused(n) => ImpliedNumbers {
+            refusal: n,
+            survivors: 0,
+        },
+        Implied::Survivors(survivors) => ImpliedNumbers {
+            refusal: 0,
             survivors,
         },
     }
@@ -205,6 +228,20 @@ pub extern "C" fn zegbiko_decide(b: &[u8], marks: &mut [u8], placement: &mut [u8
     ensures { λ _. ⌜ now (placement .exit) ≡ placementAfter (now (b .entry)) (length (now (marks .entry))) (now (placement .entry)) ⌝ }
 {
     decided_numbers(decider::decide(b, marks, placement))
+}
+
+// Fills the table of a book's implied rules.
+#[no_mangle]
+pub extern "C" fn zegbiko_implied_rules(
+    b: &[u8],
+    marks: &mut [u8],
+    table: &mut [u8],
+) -> ImpliedNumbers
+    ensures { λ r. ⌜ r ≡ impliedNumbers (impliedOf (now (b .entry)) (length (now (marks .entry))) (length (now (table .entry)))) ⌝ }
+    ensures { λ _. ⌜ now (marks .exit) ≡ tableMarksAfter (now (b .entry)) (length (now (table .entry))) (now (marks .entry)) ⌝ }
+    ensures { λ _. ⌜ now (table .exit) ≡ tableAfter (now (b .entry)) (length (now (marks .entry))) (now (table .entry)) ⌝ }
+{
+    implied_numbers(implied::implied_rules(b, marks, table))
 }
 
 // Decides a book, and writes the sheet of its model.

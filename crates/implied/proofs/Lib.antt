@@ -1,0 +1,2 @@
+pub mod Implying
+pub mod Alike

@@ -1,0 +1,2 @@
+pub mod Subsumption
+pub mod Sets
