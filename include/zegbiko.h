@@ -10,7 +10,8 @@
  *   - each pointer is valid for the length given with it, and not NULL, also where the length is 0;
  *   - a buffer that a call writes overlaps no other buffer of that call.
  * A call keeps nothing for a later one, so calls from several threads are safe as long as no thread writes a buffer that another
- * one uses. There is no heap: zegbiko_decide and zegbiko_write_sheet use some 1.2 MB of stack, the others some 5 KB.
+ * one uses. There is no heap: zegbiko_decide, zegbiko_write_sheet and zegbiko_implied_rules use some 1.2 MB of stack, the others
+ * some 5 KB.
  *
  * In each answer `refusal` is 0 if the call is answered, else the number of the first check that says no (below), and then
  * every other field is 0. A refusal changes no buffer, but for 17 to 19: these come after deciding, so marks and placement are then
@@ -49,7 +50,7 @@ extern "C" {
 
 /* ---- The version, also that of the Rust wrapper and the manual page; docs/USING.md, "Versions", says what it promises */
 
-#define ZEGBIKO_VERSION "1.2.0"
+#define ZEGBIKO_VERSION "1.3.0"
 
 /* ---- Sizes in bytes; the buffers of these sizes suffice for every book */
 
@@ -59,6 +60,7 @@ extern "C" {
 #define ZEGBIKO_PLACEMENT 16   /* two bytes for each of 8 individuals; 16 are asked for with fewer too */
 #define ZEGBIKO_SHEET 33812    /* the longest sheet: 12 + 64 * 16 + 8 * 64 * 64 + 8 */
 #define ZEGBIKO_GRID 4096      /* the largest grid: 64 elements times 64 terms */
+#define ZEGBIKO_TABLE 4096     /* the largest table of implied rules: 64 terms times 64 */
 #define ZEGBIKO_ELEMENTS 64    /* not bytes: the most elements of a sheet */
 
 /* ---- Kinds of term, and senses of a membership claim */
@@ -91,9 +93,12 @@ extern "C" {
 #define ZEGBIKO_REFUSED_PAIRS 22
 /* every call but zegbiko_check and zegbiko_work_out, after 22 */
 #define ZEGBIKO_REFUSED_CANDIDATES 10
-/* zegbiko_decide and zegbiko_write_sheet, after 10 */
+/* zegbiko_decide, zegbiko_write_sheet and zegbiko_implied_rules, after 10 */
 #define ZEGBIKO_REFUSED_MARKS 11
+/* zegbiko_decide and zegbiko_write_sheet, after 11 */
 #define ZEGBIKO_REFUSED_PLACEMENT 12
+/* zegbiko_implied_rules, after 11 */
+#define ZEGBIKO_REFUSED_TABLE 23
 /* zegbiko_work_out, after 22 */
 #define ZEGBIKO_REFUSED_SHEET_HEAD 13
 #define ZEGBIKO_REFUSED_SHEET_LAYOUT 14
@@ -135,6 +140,7 @@ static inline const char *zegbiko_refusal_text(uint8_t refusal) {
     case ZEGBIKO_REFUSED_CANDIDATE: return "a candidate number is not below the number of candidates";
     case ZEGBIKO_REFUSED_TERM_OR_ROLE: return "the term is not one of the book's, or the role is above 7";
     case ZEGBIKO_REFUSED_PAIRS: return "a pair names a role above 7";
+    case ZEGBIKO_REFUSED_TABLE: return "the table buffer has fewer bytes than the square of the term count";
     default: return "no refusal number";
     }
 }
@@ -165,6 +171,11 @@ typedef struct {
     uint8_t outcome;  /* 1 to 3 */
     size_t survivors; /* how many candidates are marked 1 */
 } zegbiko_decided;
+
+typedef struct {
+    uint8_t refusal;
+    size_t survivors; /* how many candidates are marked 1 */
+} zegbiko_implied;
 
 typedef struct {
     uint8_t refusal;
@@ -201,6 +212,20 @@ zegbiko_counted zegbiko_count(const uint8_t *book, size_t book_length);
  */
 zegbiko_decided zegbiko_decide(const uint8_t *book, size_t book_length, uint8_t *marks, size_t marks_length, uint8_t *placement,
                                size_t placement_length);
+
+/*
+ * Fills the table of implied rules, after 1 to 9, 22, 10, 11 and 23; the number of survivors is the answer. The marks are set, and kept past the
+ * number of candidates, as by zegbiko_decide. There is no placement, and claims play no part in answer and bytes.
+ *
+ * With T terms, byte left * T + right of the table is set to 1 if in every finite interpretation that meets the rules and pairs the left term's
+ * grade is not greater than the right term's at any element: "left not greater than right" is then an implied rule. Else it is set to 0, and some
+ * survivor grades left above right, as zegbiko_grade says. Without survivors all bytes are 1. The bytes past the first T * T are kept.
+ *
+ * So each term bounds itself, what bounds a bound of a term bounds the term, and a rule of the book has its byte 1. Two terms are graded alike in
+ * each of those interpretations if and only if both their bytes are 1.
+ */
+zegbiko_implied zegbiko_implied_rules(const uint8_t *book, size_t book_length, uint8_t *marks, size_t marks_length, uint8_t *table,
+                                      size_t table_length);
 
 /*
  * Decides a book as zegbiko_decide does, marks and placement likewise, and then, after 17 to 19, writes the sheet of its model: the

@@ -5,7 +5,7 @@
 //!
 //! Every call takes a book's bytes as they come and checks them first: bad input is refused with a [`Refusal`], and nothing
 //! is asked of the caller. A refusal changes no buffer, but for 17 to 19, which come after deciding. Buffers of [`MARKS`],
-//! [`PLACEMENT`], [`SHEET`] and [`GRID`] bytes suffice for every book.
+//! [`PLACEMENT`], [`TABLE`], [`SHEET`] and [`GRID`] bytes suffice for every book.
 //!
 //! A book of edition 2 may rank roles: an interpretation meets a pair of a lower and an upper role when the lower role's
 //! link never exceeds the upper's. Only interpretations that meet every pair count, in every answer.
@@ -15,9 +15,10 @@
 //! sheet are the same. The empty set claims nothing.
 //!
 //! No call keeps anything for a later one, so all may be made from several threads at once. None uses the heap, but for
-//! [`Decision::of`]. [`decide`] and [`write_sheet`] need some 1.2 MB of stack: a thread with Rust's default of 2 MB
-//! suffices, one of 1 MB does not. The others need a few KB. Deciding most books takes some 20 to 75 µs, but placing
-//! individuals is exponential at worst, and nothing stops it: decide books of strangers in a process with a limit of time.
+//! [`Decision::of`] and [`ImpliedRules::of`]. [`decide`], [`write_sheet`] and [`implied_rules`] need some 1.2 MB of stack: a
+//! thread with Rust's default of 2 MB suffices, one of 1 MB does not. The others need a few KB. Deciding most books takes
+//! some 20 to 75 µs, but placing individuals is exponential at worst, and nothing stops it: decide books of strangers in a
+//! process with a limit of time. [`implied_rules`] places nobody.
 //!
 //! The library is `target/staticlib/libzegbiko.a` of the repository, which `rt staticlib zegbiko` makes, or the one in the
 //! folder that `ZEGBIKO_LIB_DIR` names when this crate is built; a relative name is meant from the folder in which cargo is
@@ -46,6 +47,11 @@
 //! let decision = zegbiko::Decision::of(&book)?; // the same, with buffers of its own
 //! assert!(decision.listed().eq([1]) && decision.placed().eq([1]));
 //!
+//! let mut table = [0; zegbiko::TABLE];
+//! assert_eq!(zegbiko::implied_rules(&book, &mut marks, &mut table), Ok(1));
+//! assert_eq!(table[..4], [1, 1, 1, 1]); // each of the two terms bounds itself and the other,
+//! assert!(zegbiko::ImpliedRules::of(&book)?.agree(0, 1)); // so they are graded alike
+//!
 //! let mut sheet = [0; zegbiko::SHEET];
 //! let length = zegbiko::write_sheet(&book, &mut marks, &mut placement, &mut sheet)?;
 //! let mut grid = [0; zegbiko::GRID];
@@ -58,7 +64,7 @@ use std::error::Error;
 use std::fmt;
 
 /// The version, of header, wrapper and manual page alike; `docs/USING.md`, "Versions", says what it promises.
-pub const VERSION: &str = "1.2.0";
+pub const VERSION: &str = "1.3.0";
 /// The bytes of the shortest book; of edition 2 it has 22.
 pub const BOOK_LEAST: usize = 18;
 /// The bytes of the longest book, which is of edition 2; of edition 1 it has 850.
@@ -71,6 +77,8 @@ pub const PLACEMENT: usize = 16;
 pub const SHEET: usize = 33812;
 /// A grid buffer that suffices for every sheet: 64 elements times 64 terms.
 pub const GRID: usize = 4096;
+/// A table buffer that suffices for every book: 64 terms times 64.
+pub const TABLE: usize = 4096;
 /// The most elements of a sheet.
 pub const ELEMENTS: usize = 64;
 
@@ -204,10 +212,13 @@ refusals! {
     Pairs = 22,
         "does every pair name two roles of 0 to 7?",
         "a pair names a role above 7";
+    Table = 23,
+        "has the table buffer the square of the term count?",
+        "the table buffer has fewer bytes than the square of the term count";
 }
 
 impl Refusal {
-    /// The number of the check, 1 to 22. All calls ask 22 straight after 9.
+    /// The number of the check, 1 to 23. All calls ask 22 straight after 9, and [`implied_rules`] asks 23 straight after 11.
     pub const fn number(self) -> u8 {
         self as u8
     }
@@ -216,7 +227,7 @@ impl Refusal {
     fn unless_answered(number: u8) -> Result<(), Refusal> {
         match number {
             0 => Ok(()),
-            _ => Err(Refusal::numbered(number).expect("a refusal is 1 to 22")),
+            _ => Err(Refusal::numbered(number).expect("a refusal is 1 to 23")),
         }
     }
 }
@@ -316,6 +327,66 @@ impl fmt::Debug for Decision {
     }
 }
 
+/// Which term bounds which wherever a book's rules and pairs are met, kept: the answer of [`implied_rules`] and its table.
+/// Claims play no part in it.
+#[derive(Clone, PartialEq, Eq, Hash)]
+pub struct ImpliedRules {
+    survivors: usize,
+    terms: usize,
+    /// A byte for each ordered pair of terms, row by row.
+    table: Vec<u8>,
+}
+
+impl ImpliedRules {
+    /// Works out the table of a book, with buffers of its own: refused with 1 to 9, 22 or 10, or worked out.
+    ///
+    /// Needs the stack that [`implied_rules`] needs, and of the heap a byte for each candidate and each pair of terms.
+    pub fn of(book: &[u8]) -> Result<ImpliedRules, Refusal> {
+        let mut marks = vec![0; count(book)?];
+        // The book is accepted, so it has a head, and the count of its terms stands there.
+        let terms = usize::from(book[4]) * 256 + usize::from(book[5]);
+        let mut table = vec![0; terms * terms];
+        let survivors = implied_rules(book, &mut marks, &mut table)?;
+        Ok(ImpliedRules { survivors, terms, table })
+    }
+
+    /// How many candidates survive. Where none does, no interpretation meets the rules, and every rule is implied.
+    pub fn survivors(&self) -> usize {
+        self.survivors
+    }
+
+    /// How many terms the book has; they are numbered from 0.
+    pub fn terms(&self) -> usize {
+        self.terms
+    }
+
+    /// Is the left term nowhere graded above the right one, wherever rules and pairs are met? False if either number is no
+    /// term's.
+    pub fn implies(&self, left: usize, right: usize) -> bool {
+        left < self.terms && right < self.terms && self.table[left * self.terms + right] == 1
+    }
+
+    /// Are the two terms graded alike everywhere, wherever rules and pairs are met: does each bound the other? False if
+    /// either number is no term's.
+    pub fn agree(&self, left: usize, right: usize) -> bool {
+        self.implies(left, right) && self.implies(right, left)
+    }
+
+    /// The implied rules as pairs of left and right term, row by row, those of a term with itself too.
+    pub fn rules(&self) -> impl DoubleEndedIterator<Item = (usize, usize)> + '_ {
+        let implied = (0..self.table.len()).filter(|&at| self.table[at] == 1);
+        implied.map(|at| (at / self.terms, at % self.terms))
+    }
+}
+
+impl fmt::Debug for ImpliedRules {
+    fn fmt(&self, f: &mut fmt::Formatter) -> fmt::Result {
+        let rules: Vec<(usize, usize)> = self.rules().collect();
+        let mut fields = f.debug_struct("ImpliedRules");
+        fields.field("survivors", &self.survivors).field("terms", &self.terms).field("rules", &rules).finish()
+    }
+}
+
 /// The answer of [`work_out`]. Rules are looked at first, then pairs, membership claims and link claims. All of these and
 /// elements are numbered from 0.
 #[derive(Clone, Copy, Debug, PartialEq, Eq, Hash)]
@@ -392,6 +463,33 @@ pub fn decide(book: &[u8], marks: &mut [u8], placement: &mut [u8]) -> Result<Dec
         other => unreachable!("outcome {other}"),
     };
     Ok(Decided { outcome, survivors: decided.survivors })
+}
+
+/// Fills the table of implied rules of a book, and gives the number of survivors; refused with 1 to 9, 22, 10, 11 and 23.
+///
+/// `marks` are set, and kept past the number of candidates, as by [`decide`]. With T terms, byte left * T + right of
+/// `table` is set to 1 if the left term is nowhere graded above the right one in any finite interpretation that meets the
+/// rules and pairs, else to 0; the bytes past the first T * T are kept. Without survivors all bytes are 1. Claims play no
+/// part in answer and bytes.
+///
+/// So each term bounds itself, what bounds a bound of a term bounds the term, and a rule of the book has its byte 1. Where a
+/// byte is 0, some candidate that is marked 1 shows it: its [`grade`] of the left term exceeds that of the right one.
+///
+/// Needs some 1.2 MB of stack; a thread of Rust's default size has it. [`ImpliedRules::of`] has buffers of its own.
+pub fn implied_rules(book: &[u8], marks: &mut [u8], table: &mut [u8]) -> Result<usize, Refusal> {
+    // SAFETY: see `check`.
+    let implied = unsafe {
+        raw::zegbiko_implied_rules(
+            book.as_ptr(),
+            book.len(),
+            marks.as_mut_ptr(),
+            marks.len(),
+            table.as_mut_ptr(),
+            table.len(),
+        )
+    };
+    Refusal::unless_answered(implied.refusal)?;
+    Ok(implied.survivors)
 }
 
 /// Decides a book as [`decide`] does, `marks` and `placement` likewise, then writes the sheet of its model and gives the
@@ -504,6 +602,13 @@ pub mod raw {
 
     #[derive(Clone, Copy, Debug)]
     #[repr(C)]
+    pub struct Implied {
+        pub refusal: u8,
+        pub survivors: usize,
+    }
+
+    #[derive(Clone, Copy, Debug)]
+    #[repr(C)]
     pub struct Written {
         pub refusal: u8,
         pub length: usize,
@@ -537,6 +642,14 @@ pub mod raw {
             placement: *mut u8,
             placement_length: usize,
         ) -> Decided;
+        pub fn zegbiko_implied_rules(
+            book: *const u8,
+            book_length: usize,
+            marks: *mut u8,
+            marks_length: usize,
+            table: *mut u8,
+            table_length: usize,
+        ) -> Implied;
         pub fn zegbiko_write_sheet(
             book: *const u8,
             book_length: usize,
