@@ -64,7 +64,7 @@ fn questions_of_wrapper_and_document() {
     let rows = table_under(&read(NUMBERS), "| number | question | asked by | after |");
     let document = rows.iter().map(|row| without_brackets(&format!("{} \"{}\"", row[0], row[1])));
     let questions = rust::questions(&read(WRAPPER));
-    assert_eq!(questions.len(), 22);
+    assert_eq!(questions.len(), 23);
     agree((NUMBERS, document.collect()), (WRAPPER, questions.iter().map(|line| without_brackets(line)).collect()));
 }
 
@@ -72,7 +72,7 @@ fn questions_of_wrapper_and_document() {
 #[test]
 fn statements_of_wrapper_and_documents() {
     let statements = rust::statements(&read(WRAPPER));
-    assert_eq!(statements.len(), 22);
+    assert_eq!(statements.len(), 23);
     let document = read(NUMBERS);
     let written = numbered(&document).into_iter().map(|(number, text)| format!("{number} \"{text}\""));
     agree((NUMBERS, written.collect()), (WRAPPER, statements.clone()));
@@ -123,6 +123,7 @@ fn programs_in_c_and_cplusplus() {
     add! {
         Counted { refusal, candidates }
         Decided { refusal, outcome, survivors }
+        Implied { refusal, survivors }
         Written { refusal, length }
         Worked { refusal, verdict, number, element, second }
         Graded { refusal, grade }
@@ -130,10 +131,10 @@ fn programs_in_c_and_cplusplus() {
 
     expected.push("0 \"not refused\"".into());
     let statements = rust::statements(&read(WRAPPER));
-    for number in 1..=22 {
+    for number in 1..=23 {
         expected.push(statements.iter().find(|line| line.starts_with(&format!("{number} "))).expect("a text").clone());
     }
-    expected.push("23 \"no refusal number\"".into());
+    expected.push("24 \"no refusal number\"".into());
 
     let mut program = String::from("#include <zegbiko.h>\n#include <stdio.h>\nint main(void) {\n");
     for (name, fields) in c::structs(&read(HEADER)) {
@@ -142,7 +143,7 @@ fn programs_in_c_and_cplusplus() {
             program += &format!("printf(\"{name}.{field} %zu\\n\", offsetof(zegbiko_{name}, {field}));\n");
         }
     }
-    program += "for (uint8_t i = 0; i < 24; i++) printf(\"%d \\\"%s\\\"\\n\", i, zegbiko_refusal_text(i));\n";
+    program += "for (uint8_t i = 0; i < 25; i++) printf(\"%d \\\"%s\\\"\\n\", i, zegbiko_refusal_text(i));\n";
     program += "return zegbiko_check((const uint8_t *)\"\", 0) == ZEGBIKO_REFUSED_BOOK_LENGTH ? 0 : 1;\n}\n";
 
     for (language, standard) in [("c", "-std=c99"), ("c++", "-std=c++11")] {

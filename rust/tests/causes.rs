@@ -89,6 +89,10 @@ fn decide(book: &Draft, marks: usize, placement: usize) -> u8 {
     number(zegbiko::decide(&book.bytes(), &mut vec![0; marks], &mut vec![0; placement]))
 }
 
+fn imply(book: &Draft, table: usize) -> u8 {
+    number(zegbiko::implied_rules(&book.bytes(), &mut [0; zegbiko::MARKS], &mut vec![0; table]))
+}
+
 fn write(book: &Draft, sheet: usize) -> u8 {
     let (mut marks, mut placement) = ([0; zegbiko::MARKS], [0; zegbiko::PLACEMENT]);
     number(zegbiko::write_sheet(&book.bytes(), &mut marks, &mut placement, &mut vec![0; sheet]))
@@ -402,6 +406,13 @@ fn mistakes() -> Vec<(u8, &'static str, u8)> {
             book.terms.extend([[NOT, 0, 0]; 4]);
             check(&book.bytes())
         }),
+        (23, "a byte for each term in place of one for each two of them", {
+            assert_eq!(imply(&right(), 36), 0);
+            imply(&right(), 6)
+        }),
+        (23, "a byte for each two terms in place of one for either order of them", imply(&right(), 15)),
+        (23, "a buffer sized for another book, or for this one before a term was added", imply(&more_names, 4)),
+        (23, "in C, `sizeof` of a pointer in place of the array", imply(&right(), 8)),
     ]
 }
 

@@ -1,5 +1,5 @@
 //! Every call of the library against the plain implementation, on seeded books and sheets. A case has a book of each
-//! edition.
+//! edition; one case in four has also one for the table of implied rules.
 //!
 //! `ZEGBIKO_SEED` gives another seed, `ZEGBIKO_CASES` another number of cases; `ZEGBIKO_CASE` runs that one alone.
 
@@ -19,7 +19,7 @@ use compared::compare;
 use compared::tally::Tally;
 use generate::damage::damaged;
 use generate::random::Random;
-use generate::{books, sheets};
+use generate::{books, sheets, tables};
 use plain::book::{Book, Pair, Term};
 use plain::placement::Decision;
 use plain::Plain;
@@ -28,16 +28,29 @@ use support::calls::{Answer, Call};
 use support::draft::{is_set, Draft, AT_LEAST, AT_MOST, EACH_AT_LEAST, EACH_AT_MOST};
 
 const SEED: u64 = 1;
-const CASES: u64 = 100_000;
-const EDITIONS: [u8; 2] = [1, 2];
+const CASES: u64 = 60_000;
+
+/// What a case has a book of: a name, how many cases there are for one with such a book, the case's numbers, and what draws
+/// the book by them.
+type Sort = (&'static str, u64, fn(u64, u64) -> Random, fn(&mut Random) -> Vec<u8>);
+
+const FOR_THE_TABLE: &str = "for the table";
+
+const SORTS: [Sort; 3] = [
+    ("edition 1", 1, Random::of, books::any),
+    ("edition 2", 1, Random::of_edition_2, books::ranked),
+    (FOR_THE_TABLE, 16, Random::of_tables, tables::any),
+];
+
+fn sorts_of(case: u64) -> impl Iterator<Item = Sort> {
+    SORTS.into_iter().filter(move |(_, one_in, ..)| case.is_multiple_of(*one_in))
+}
 
 #[test]
 fn library_and_plain_implementation_agree() {
     let (seed, cases) = (setting("ZEGBIKO_SEED").unwrap_or(SEED), setting("ZEGBIKO_CASES").unwrap_or(CASES));
     if let Some(number) = setting("ZEGBIKO_CASE") {
-        for edition in EDITIONS {
-            Case::run(seed, edition, number, &mut tally());
-        }
+        sorts_of(number).for_each(|sort| Case::run(seed, sort, number, &mut tally()));
         println!("seed {seed}: case {number} agrees");
         return;
     }
@@ -48,10 +61,10 @@ fn library_and_plain_implementation_agree() {
         let mut note = File::create(format!("{}/differential-{worker}", env!("CARGO_TARGET_TMPDIR"))).expect("a file");
         let mut tally = tally();
         for number in (worker as u64..cases).step_by(workers) {
-            for edition in EDITIONS {
-                let case = name(seed, edition, number);
-                note.rewind().and_then(|()| writeln!(note, "{case}")).expect("a line");
-                Case::run(seed, edition, number, &mut tally);
+            for sort in sorts_of(number) {
+                let case = name(seed, sort, number);
+                note.rewind().and_then(|()| writeln!(note, "{case:40}")).expect("a line");
+                Case::run(seed, sort, number, &mut tally);
             }
         }
         tally
@@ -66,11 +79,11 @@ fn library_and_plain_implementation_agree() {
 }
 
 fn tally() -> Tally {
-    Tally::demanding(&[("refusal", 1..=22), ("outcome", 1..=3), ("verdict", 0..=4)])
+    Tally::demanding(&[("refusal", 1..=23), ("outcome", 1..=3), ("verdict", 0..=4)])
 }
 
-fn name(seed: u64, edition: u8, number: u64) -> String {
-    format!("seed {seed} case {number} edition {edition}")
+fn name(seed: u64, (sort, ..): Sort, number: u64) -> String {
+    format!("seed {seed} case {number} {sort}")
 }
 
 fn setting(name: &str) -> Option<u64> {
@@ -87,20 +100,19 @@ struct Case<'a> {
 }
 
 impl Case<'_> {
-    fn run(seed: u64, edition: u8, number: u64, tally: &mut Tally) {
-        let (mut random, draw): (_, fn(&mut Random) -> _) = match edition {
-            1 => (Random::of(seed, number), books::any),
-            _ => (Random::of_edition_2(seed, number), books::ranked),
-        };
+    fn run(seed: u64, sort: Sort, number: u64, tally: &mut Tally) {
+        let (_, _, numbers, draw) = sort;
+        let mut random = numbers(seed, number);
         let book = draw(&mut random);
         let plain = Plain::open(&book);
-        let mut case = Case { name: name(seed, edition, number), random, book, plain, tally };
+        let mut case = Case { name: name(seed, sort, number), random, book, plain, tally };
         case.note_the_book();
         case.note_the_sets();
         case.compare(Call::Check, &[]);
         case.compare(Call::Count, &[]);
         case.compare_candidates();
         case.compare_deciding();
+        case.compare_implied_rules();
         case.compare_sheets();
     }
 
@@ -296,6 +308,66 @@ impl Case<'_> {
     fn deciding_lengths(&mut self) -> (usize, usize) {
         let count = self.plain.count().unwrap_or(9);
         (self.near(count), self.near(zegbiko::PLACEMENT))
+    }
+
+    fn compare_implied_rules(&mut self) {
+        let terms = self.plain.book().map_or(3, |book| book.terms.len());
+        let ((marks, _), table) = (self.deciding_lengths(), self.near(terms * terms));
+        let ([refusal, survivors, ..], buffers) = self.compare(Call::ImpliedRules { marks, table }, &[]);
+        self.tally.add("refusal 11, and the table buffer is too short too", refusal == 11 && table < terms * terms);
+        if refusal == 0 {
+            let table = &buffers[1].contents()[..terms * terms];
+            self.note_the_table(table);
+            // It is the same call once more, so not of every book.
+            if self.name.ends_with(FOR_THE_TABLE) {
+                self.compare_kept_table(survivors, terms, table);
+            }
+        }
+    }
+
+    /// The wrapper's `ImpliedRules` says the same.
+    fn compare_kept_table(&self, survivors: usize, terms: usize, table: &[u8]) {
+        let implied = zegbiko::ImpliedRules::of(&self.book).expect("worked out");
+        assert_eq!((implied.survivors(), implied.terms()), (survivors, terms), "{}", self.name);
+        let pairs = || (0..=terms).flat_map(|left| (0..=terms).map(move |right| (left, right)));
+        let byte = |(left, right)| left < terms && right < terms && table[left * terms + right] == 1;
+        assert!(pairs().all(|(left, right)| implied.implies(left, right) == byte((left, right))), "{}", self.name);
+        let both = |(left, right)| byte((left, right)) && byte((right, left));
+        assert!(pairs().all(|(left, right)| implied.agree(left, right) == both((left, right))), "{}", self.name);
+        assert!(implied.rules().eq(pairs().filter(|&pair| byte(pair))), "{}", self.name);
+    }
+
+    /// Counts tables of the special kinds; each kind has to occur.
+    fn note_the_table(&mut self, table: &[u8]) {
+        let (Ok(book), Ok(eliminated)) = (self.plain.book(), self.plain.eliminated()) else {
+            unreachable!("worked out")
+        };
+        let (terms, rows) = (book.terms.len(), &eliminated.survivors);
+        let mut note = |name: &str, seen| self.tally.add(&format!("tables {name}"), seen);
+        let ones = table.iter().filter(|&&byte| byte == 1).count();
+        [0, 1, 63, 64].iter().for_each(|&n| note(&format!("of {n} terms"), terms == n));
+        note("of several terms, no survivors", terms > 1 && rows.is_empty());
+        note("of several terms, one survivor", terms > 1 && rows.len() == 1);
+        note(
+            "of several terms, all ones although there are survivors",
+            terms > 1 && ones == table.len() && !rows.is_empty(),
+        );
+        note("of several terms, ones on the diagonal alone", terms > 1 && ones == terms);
+        note("of 64 terms, ones and zeros a thousand each", terms == 64 && (1000..3096).contains(&ones));
+        let fails = matches!(self.plain.decision(), Ok(Decision::ClaimsFail));
+        note("of outcome 2, ones and zeros", fails && ones < table.len());
+        if !(3..=200).contains(&rows.len()) || terms > 32 {
+            return;
+        }
+        // Of each zero whose pair one survivor alone tells apart, where that stands in the list.
+        let mut alone = BTreeSet::new();
+        for at in (0..table.len()).filter(|&at| table[at] == 0) {
+            let mut telling = rows.values().enumerate().filter(|(_, row)| row[at / terms] > row[at % terms]);
+            alone.extend(telling.next().filter(|_| telling.next().is_none()).map(|(number, _)| number));
+        }
+        note("with a zero for the sake of the first survivor alone", alone.contains(&0));
+        note("with a zero for the sake of the last survivor alone", alone.contains(&(rows.len() - 1)));
+        note("with a zero for the sake of another one alone", alone.iter().any(|&one| one > 0 && one < rows.len() - 1));
     }
 
     fn compare_sheets(&mut self) {

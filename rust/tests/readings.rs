@@ -1,6 +1,6 @@
-//! The readings of the specification (document 01, and P1 and P2 of document 02) and the hard books of the benchmark, held
-//! against the library and the plain implementation alike. The expected values come from the documents, or were worked out
-//! by hand.
+//! The readings of the specification (document 01, and P1, P2 and P4 of document 02) and the hard books of the benchmark,
+//! held against the library and the plain implementation alike. The expected values come from the documents, or were worked
+//! out by hand.
 
 mod plain;
 mod support;
@@ -108,6 +108,7 @@ fn every_call_on_the_printed_book() {
     answers(&book, &[], Call::Grade { candidate: 3, term: 2 }, [20, 0, 0, 0], &[]);
     answers(&book, &[], Call::Link { role: 7, from: 0, to: 2 }, [0, 2, 0, 0], &[]);
     answers(&book, &[], Call::Link { role: 8, from: 0, to: 2 }, [21, 0, 0, 0], &[]);
+    answers(&book, &[], Call::ImpliedRules { marks: 3, table: 6 }, [0, 1, 0, 0], &[1, 1, 1, 1]);
 
     let model = from_hex("01 02 01 01 00 01 00 0C 00 0D 00 0D 01 00");
     let call = Call::WriteSheet { marks: 3, placement: 16, sheet: 20 };
@@ -482,6 +483,7 @@ fn edition_2_without_pairs_answers_as_edition_1() {
             Call::Check,
             Call::Count,
             Call::Decide { marks: 27, placement: 16 },
+            Call::ImpliedRules { marks: 27, table: 20 },
             Call::WriteSheet { marks: 27, placement: 16, sheet: 2000 },
             Call::WorkOut { grid: 4 },
             Call::Grade { candidate: 1, term: 1 },
@@ -536,6 +538,7 @@ fn pairs_that_name_a_role_above_7() {
         Call::Check,
         Call::Count,
         Call::Decide { marks: 0, placement: 0 },
+        Call::ImpliedRules { marks: 0, table: 0 },
         Call::WriteSheet { marks: 0, placement: 0, sheet: 0 },
         Call::WorkOut { grid: 0 },
         Call::Grade { candidate: 1 << 20, term: 100 },
@@ -551,7 +554,7 @@ fn pairs_that_name_a_role_above_7() {
         let both = Draft { links: vec![[8, 0, 0, 0]], ..ranked(&book, &pairs) };
         calls.into_iter().for_each(|call| answers(&both, &[], call, [9], &[]));
     }
-    for (call, refused) in calls.into_iter().zip([0, 10, 10, 10, 13, 10, 10]) {
+    for (call, refused) in calls.into_iter().zip([0, 10, 10, 10, 10, 13, 10, 10]) {
         answers(&ranked(&book, &[[0, 7], [7, 0]]), &[], call, [refused], &[]);
     }
 }
@@ -699,6 +702,209 @@ fn sets_that_do_not_fit_written_out() {
                 // 512 claims are too long as well
             }
         }
+    }
+}
+
+/// The marked candidates, and the table row by row, of every side; what is past both is kept. A book without pairs is asked
+/// of in both editions.
+fn implies(book: &Draft, survivors: &[usize], rows: &[&str]) {
+    let cells: Vec<u8> = rows.concat().bytes().map(|digit| digit - b'0').collect();
+    assert_eq!(cells.len(), book.terms.len() * book.terms.len());
+    let books = if book.pairs.is_some() { vec![book.clone()] } else { editions(book).to_vec() };
+    for (side, book) in SIDES.into_iter().flat_map(|side| books.iter().map(move |book| (side, book))) {
+        let marks = Plain::open(&book.bytes()).count().expect("few");
+        let (answer, buffers) =
+            ask(side, &book.bytes(), &[], Call::ImpliedRules { marks: marks + 3, table: cells.len() + 3 });
+        assert_eq!(answer, calls::answer([0, survivors.len()]), "{book:?}");
+        let marked: Vec<u8> = (0..marks).map(|candidate| u8::from(survivors.contains(&candidate))).collect();
+        assert_eq!(buffers[0].contents(), [&marked[..], &[KEPT; 3]].concat(), "{book:?}");
+        assert_eq!(buffers[1].contents(), [&cells[..], &[KEPT; 3]].concat(), "{book:?}");
+    }
+}
+
+/// "1 if left is never greater than right in any finite interpretation that meets the rules, else 0."
+#[test]
+fn implied_rules_of_the_printed_book() {
+    // The rules ask for a <= 2 - a and 2 - a <= a of A's grade a at every element, so it is 1, and that of "not A" is 1 too.
+    implies(&printed_book(), &[1], &["11", "11"]);
+    // By the first alone a is 0 or 1: "not A" is 2 or 1, never below A, and above it where a is 0.
+    let mut first = printed_book();
+    first.rules.pop();
+    implies(&first, &[0, 1], &["11", "01"]);
+    // By the second alone a is 1 or 2.
+    let mut second = printed_book();
+    second.rules.remove(0);
+    implies(&second, &[1, 2], &["10", "11"]);
+    // With no rule a is any grade: 2 above 0, or 0 below 2.
+    implies(&Draft { rules: vec![], ..printed_book() }, &[0, 1, 2], &["10", "01"]);
+    // "With no survivors all are 1": on one step no grade a is 1 - a.
+    implies(&Draft { steps: 1, ..printed_book() }, &[], &["11", "11"]);
+}
+
+/// The harness of `docs/USING.md`: the fault, "not" of it, and "all r1" of that; r0 is under r1. There are no rules.
+#[test]
+fn implied_rules_of_the_harness() {
+    let mut book = Draft::new(2);
+    let fault = book.term(NAME, 0, 0);
+    let sound = book.term(NOT, fault, 0);
+    let wired_to_sound = book.term(ALL, 1, sound);
+    book.memberships = vec![[0, wired_to_sound, AT_LEAST, 1], [1, fault, AT_LEAST, 2]];
+    book.links = vec![[0, 0, 1, 2]];
+    // An element may have the fault to any grade f, and then "not" of it to 2 - f. Without links "all r1" is 2 there, and by an
+    // r1 link of 2 to an element that has the fault to grade 1 or 2 it is 1 or 0. So all nine types occur, and among them are
+    // (2, 0, 2), (2, 0, 0), (0, 2, 2) and (0, 2, 0): each term is 2 where another is 0, so no term bounds another.
+    let all: Vec<usize> = (0..9).collect();
+    implies(&ranked(&book, &[[0, 1]]), &all, &["100", "010", "001"]);
+    // The claims contradict each other by the pair, and do not without it: the table is the same.
+    outcome(&ranked(&book, &[[0, 1]]), 2);
+    outcome(&book, 1);
+    implies(&book, &all, &["100", "010", "001"]);
+
+    // The rule "fault not greater than all r1 sound" strikes the types with the fault above "all r1": (1, 1, 0), (2, 0, 0) and
+    // (2, 0, 1). The others occur: without links "all r1" is 2, and by a link of 2 to an element without links that has the
+    // fault to grade 1 or 2 it is 1 or 0. So the rule has its byte 1, and no other follows: (0, 2, 2), (2, 0, 2) and (0, 2, 0).
+    book.rules = vec![[fault, wired_to_sound]];
+    implies(&ranked(&book, &[[0, 1]]), &[0, 3, 4, 6, 7, 8], &["101", "010", "001"]);
+}
+
+#[test]
+fn implied_rules_of_connectives() {
+    // A, B, "A and B", "A or B", "not A", top and bottom, on two steps.
+    let mut book = Draft::new(2);
+    let [a, b] = [0, 1].map(|name| book.term(NAME, name, 0));
+    for (kind, first, second) in [(AND, a, b), (OR, a, b), (NOT, a, 0), (TOP, 0, 0), (BOTTOM, 0, 0)] {
+        book.term(kind, first, second);
+    }
+    // Any grades a and b occur together. The smaller bounds from below, the larger from above, and top and bottom all. The
+    // others are told apart: a 2, b 0 gives 2 0 0 2 0 2 0; a 0, b 2 gives 0 2 0 2 2 2 0; a 0, b 0 gives 0 0 0 0 2 2 0; a 2, b 2
+    // gives 2 2 2 2 0 2 0.
+    let rows = ["1001010", "0101010", "1111010", "0001010", "0000110", "0000010", "1111111"];
+    implies(&book, &Vec::from_iter(0..9), &rows);
+    // With A not greater than B, "A and B" is A and "A or B" is B. Of the grades left, a 0, b 0 and a 0, b 2 and a 2, b 2, as
+    // above, tell the others apart.
+    book.rules = vec![[a, b]];
+    let rows = ["1111010", "0101010", "1111010", "0101010", "0000110", "0000010", "1111111"];
+    implies(&book, &[0, 3, 4, 6, 7, 8], &rows);
+}
+
+#[test]
+fn implied_rules_of_a_chain() {
+    // A not greater than B, B not greater than C, N 1: A is not greater than C.
+    let mut book = Draft::new(1);
+    book.terms = [0, 1, 2].map(|name| [NAME, name, 0]).to_vec();
+    book.rules = vec![[0, 1], [1, 2]];
+    implies(&book, &[0, 4, 6, 7], &["111", "011", "001"]);
+    // Closed to a circle all three are alike.
+    book.rules.push([2, 0]);
+    implies(&book, &[0, 7], &["111", "111", "111"]);
+}
+
+#[test]
+fn implied_rules_of_quantified_terms() {
+    // A, "not A", "all r0 (not A)", "not" of that, and "some r0 A", on four steps. With link l to an element where A is a, the
+    // last takes min(l, a), and the third max(4 - l, 4 - a), which is 4 less that. So the last two are alike, whatever the
+    // links. No other two are: A is any grade, whatever an element is linked to, and that may be nothing, so that "some" is 0,
+    // or an element with A fully, so that it is 4.
+    let mut book = Draft::new(4);
+    let a = book.term(NAME, 0, 0);
+    let not_a = book.term(NOT, a, 0);
+    let all_not_a = book.term(ALL, 0, not_a);
+    book.term(NOT, all_not_a, 0);
+    book.term(SOME, 0, a);
+    // Places are A, "all" and "some", the digits in base 5: all that have "some" at 4 less "all".
+    let survivors: Vec<usize> = (0..125).filter(|type_of| type_of / 25 == 4 - type_of / 5 % 5).collect();
+    implies(&book, &survivors, &["10000", "01000", "00100", "00011", "00011"]);
+
+    // "some r0 bottom" is bottom, and "all r0 top" is top.
+    let mut book = Draft::new(3);
+    let (bottom, top) = (book.term(BOTTOM, 0, 0), book.term(TOP, 0, 0));
+    book.term(SOME, 0, bottom);
+    book.term(ALL, 0, top);
+    implies(&book, &[12], &["1111", "0101", "1111", "0101"]);
+}
+
+#[test]
+fn implied_rules_under_pairs() {
+    // A, "some r0 A", "some r1 A", N 1. Each may be 1 where another is 0: A by itself, without links; "some" by a link.
+    let mut book = Draft::new(1);
+    let a = book.term(NAME, 0, 0);
+    book.term(SOME, 0, a);
+    book.term(SOME, 1, a);
+    implies(&book, &Vec::from_iter(0..8), &["100", "010", "001"]);
+    // r0 under r1: whoever has a link by r0 has it by r1, to the same element. By r1 alone shows that it is not so the other way.
+    implies(&ranked(&book, &[[0, 1]]), &[0, 1, 4, 5, 6, 7], &["100", "011", "001"]);
+    implies(&ranked(&book, &[[1, 0]]), &[0, 1, 2, 3, 6, 7], &["100", "010", "011"]);
+    // A circle, also by way of a role that no term uses, makes both alike.
+    for pairs in [&[[0, 1], [1, 0]][..], &[[0, 5], [5, 1], [1, 0]]] {
+        implies(&ranked(&book, pairs), &[0, 1, 6, 7], &["100", "011", "011"]);
+    }
+    // For "all" it is the other way round.
+    let all = Draft { terms: vec![[NAME, 0, 0], [ALL, 0, 0], [ALL, 1, 0]], ..book };
+    implies(&ranked(&all, &[[0, 1]]), &[0, 1, 2, 3, 6, 7], &["100", "010", "011"]);
+}
+
+/// "Claims play no part. With no survivors all are 1."
+#[test]
+fn implied_rules_whatever_is_claimed() {
+    // Bottom is claimed at least 1 of an individual, or of each of three: outcome 2, and the table is that of the rules.
+    for claim in [[0, 1, AT_LEAST, 1], [0b111, 1, EACH_AT_LEAST, 1], [0, 1, EACH_AT_LEAST, 1], [3, 0, AT_LEAST, 1]] {
+        implies(&of_a(&[claim]), &[0, 1, 2], &["10", "11"]);
+    }
+    outcome(&of_a(&[[0, 1, AT_LEAST, 1]]), 2);
+    // Top not greater than bottom.
+    let never = Draft { terms: vec![[TOP, 0, 0], [BOTTOM, 0, 0], [NAME, 0, 0]], rules: vec![[0, 1]], ..Draft::new(1) };
+    implies(&never, &[], &["111", "111", "111"]);
+    // No terms: no bytes, and a table buffer of none suffices.
+    implies(&Draft::new(5), &[0], &[]);
+    answers(&Draft::new(5), &[], Call::ImpliedRules { marks: 1, table: 0 }, [0, 1], &[]);
+}
+
+/// "23 when the table buffer is shorter than the square of the term count, after 11." 12 is not asked: there is no placement.
+#[test]
+fn the_checks_of_implied_rules() {
+    let refused = |book: &Draft, marks: usize, table: usize, number: usize| {
+        for side in SIDES {
+            let (answer, buffers) = ask(side, &book.bytes(), &[], Call::ImpliedRules { marks, table });
+            assert_eq!(answer, calls::answer([number]), "{marks} {table} {book:?}");
+            let untouched = buffers.iter().all(|buffer| buffer.contents().iter().all(|&byte| byte == KEPT));
+            assert!(untouched, "{marks} {table} {book:?}");
+        }
+    };
+    // Three candidates, two terms.
+    for book in editions(&printed_book()) {
+        [(2, 4), (2, 9), (0, 4), (2, 3), (0, 0)].iter().for_each(|&(marks, table)| refused(&book, marks, table, 11));
+        [(3, 3), (4, 3), (9, 2), (3, 0)].iter().for_each(|&(marks, table)| refused(&book, marks, table, 23));
+        answers(&book, &[], Call::ImpliedRules { marks: 3, table: 4 }, [0, 1], &[1; 4]);
+        answers(&book, &[], Call::ImpliedRules { marks: 5, table: 9 }, [0, 1], &[1; 4]);
+    }
+    // Without survivors too.
+    refused(&Draft { steps: 1, ..printed_book() }, 2, 3, 23);
+    // The most of both: 14 places, and 64 terms.
+    let mut largest = Draft::new(1);
+    largest.terms = (0..64).map(|term| if term < 14 { [NAME, term, 0] } else { [TOP, 0, 0] }).collect();
+    for book in editions(&largest) {
+        refused(&book, 16383, 4096, 11);
+        refused(&book, 16384, 4095, 23);
+        refused(&book, 16383, 4095, 11);
+        let all = Vec::from_iter(0..16384);
+        // Of the names each is bounded by itself and by the 50 tops, which are bounded by each other.
+        let name = |i: usize| "0".repeat(i) + "1" + &"0".repeat(13 - i) + &"1".repeat(50);
+        let top = "0".repeat(14) + &"1".repeat(50);
+        let rows: Vec<String> = (0..14).map(name).chain(vec![top; 50]).collect();
+        implies(&book, &all, &rows.iter().map(String::as_str).collect::<Vec<_>>());
+    }
+    // 10 comes before 11, and what is wrong with claims is seen, although they play no part.
+    let too_wide = Draft { terms: (0..15).map(|name| [NAME, name, 0]).collect(), ..Draft::new(1) };
+    let wrong = |memberships: &[[u8; 4]], links: &[[u8; 4]]| Draft {
+        memberships: memberships.to_vec(),
+        links: links.to_vec(),
+        ..too_wide.clone()
+    };
+    for (marks, table) in [(0, 0), (16384, 4096)] {
+        editions(&too_wide).iter().for_each(|book| refused(book, marks, table, 10));
+        refused(&wrong(&[[8, 0, AT_LEAST, 0]], &[[8, 0, 0, 0]]), marks, table, 8);
+        refused(&wrong(&[], &[[8, 0, 0, 0]]), marks, table, 9);
+        refused(&ranked(&too_wide, &[[0, 8]]), marks, table, 22);
     }
 }
 

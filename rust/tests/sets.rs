@@ -1,6 +1,7 @@
 //! The match of sets and single claims: "An accepted book, with its sets written out as single claims, must get the same
 //! outcome, marks and placement, where it then fits in 64 claims." Seeded books with sets are decided beside the same books
-//! written out, by the library and by the plain implementation; likewise their sheets are written and worked out.
+//! written out, by the library and by the plain implementation; likewise their tables of implied rules are filled, and their
+//! sheets written and worked out.
 
 // Of these the other tests use what is left unused here.
 #[allow(dead_code)]
@@ -94,6 +95,9 @@ impl Both {
         let call = Call::Decide { marks, placement: zegbiko::PLACEMENT };
         let (answer, _) = self.call(&[], call);
         tally.add_answer(call, answer);
+        let terms = self.plain[0].book().map_or(0, |book| book.terms.len());
+        let table = terms * terms + self.random.below(3);
+        self.call(&[], Call::ImpliedRules { marks, table });
         let sets = &self.sets;
         let individuals = self.plain[0].book().map_or(0, Book::individuals);
         tally.add("books with several sets", sets.iter().filter(|set| **set).count() > 1);

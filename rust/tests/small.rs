@@ -1,6 +1,7 @@
 //! The plain implementation against itself, with no call of the library: its types and outcomes come from links and
-//! elimination, and here all interpretations of one and two elements are tried, and the model of the survivors. So what the
-//! other tests hold the library to is what the documents ask for: the types that occur where rules and pairs are met.
+//! elimination, and its implied rules from the types; here all interpretations of one and two elements are tried, and the
+//! model of the survivors. So what the other tests hold the library to is what the documents ask for: the types that occur
+//! where rules and pairs are met, and the terms that bound each other there.
 
 #[allow(dead_code)]
 mod generate;
@@ -72,9 +73,16 @@ fn each(book: &Book, elements: usize, mut see: impl FnMut(&Interpretation)) {
     }
 }
 
+/// The pairs of terms of which the first is above the second in one of the rows.
+fn told_apart<'a>(terms: usize, rows: impl IntoIterator<Item = &'a Vec<Grade>>) -> BTreeSet<(usize, usize)> {
+    let pairs = move || (0..terms).flat_map(move |left| (0..terms).map(move |right| (left, right)));
+    rows.into_iter().flat_map(|row| pairs().filter(|&(left, right)| row[left] > row[right])).collect()
+}
+
 #[test]
 fn types_and_outcomes() {
     let (mut tried, mut equal, mut outcomes, mut by_pairs, mut with_sets) = (0, 0, [0; 3], 0, [0; 3]);
+    let (mut implied, mut not_implied, mut shown) = (0, 0, 0);
     for case in 0..BOOKS {
         let draft = drawn(&mut Random::of(1, case));
         let plain = Plain::open(&draft.bytes());
@@ -94,6 +102,18 @@ fn types_and_outcomes() {
         // What occurs is listed, and a book that is met holds together.
         assert!(seen.iter().all(|row| survivors.values().any(|other| row == other)), "{draft:?}");
         equal += usize::from(seen.len() == survivors.len());
+        // Where an implied rule stands no interpretation breaks it; the model of the survivors breaks all others. Its
+        // individuals play no part.
+        let terms = book.terms.len();
+        let table = book.implied_rules(survivors);
+        let zeros = (0..table.len()).filter(|&at| table[at] == 0).map(|at| (at / terms, at % terms));
+        let (zeros, broken): (BTreeSet<_>, _) = (zeros.collect(), told_apart(terms, &seen));
+        assert!(broken.is_subset(&zeros), "{draft:?}");
+        let model = book.model(survivors, &[]);
+        assert_eq!(zeros, told_apart(terms, &book.rows(&model)), "{draft:?}");
+        not_implied += zeros.len();
+        implied += table.len() - zeros.len();
+        shown += broken.len();
         match plain.decision().expect("few") {
             Decision::HoldsTogether(places) => {
                 // What is listed occurs, and the book is met: in the model.
@@ -122,6 +142,8 @@ fn types_and_outcomes() {
     println!(
         "{BOOKS} books, {tried} interpretations; outcomes 1 to 3: {outcomes:?}; pairs take types away in {by_pairs}"
     );
+    println!("{implied} rules are implied, {not_implied} are not, {shown} of these by two elements or one");
     println!("in {equal} books every type occurs with two elements or one; sets of 0 to 2 are in {with_sets:?}");
     assert!(outcomes.iter().chain(&with_sets).all(|&count| count > 0) && by_pairs > 0 && equal > 0);
+    assert!(implied > 0 && shown > 0);
 }

@@ -109,6 +109,11 @@ impl Sweep {
                 self.call(book, &plain, &[], Call::Decide { marks, placement: zegbiko::PLACEMENT });
             (1..=3).for_each(|n| self.tally.add(&format!("outcome  {n} with sets"), sets && outcome == n));
         }
+        let marks = plain.count().ok().filter(|&count| count <= FEW).unwrap_or(0);
+        let table = plain.book().map_or(0, |book| book.terms.len().pow(2));
+        for (marks, table) in [(marks, table), (marks, table.saturating_sub(1))] {
+            self.call(book, &plain, &[], Call::ImpliedRules { marks, table });
+        }
         self.call(book, &plain, &[], Call::Count).0
     }
 
@@ -155,7 +160,7 @@ fn changed(bytes: &[u8]) -> impl Iterator<Item = Vec<u8>> + '_ {
 
 #[test]
 fn books() {
-    let refusals = [("refusal", 1..=10), ("refusal", 22..=22), ("outcome", 1..=3)];
+    let refusals = [("refusal", 1..=11), ("refusal", 22..=23), ("outcome", 1..=3)];
     let mut sweep = Sweep::begin(0, Tally::demanding(&refusals));
     for book in [PRINTED, SETS, LARGER, RANKED].map(from_hex) {
         for edition in 0..=3 {

@@ -65,17 +65,17 @@ pub fn ranked(random: &mut Random) -> Vec<u8> {
     sets::mixed_in(random, book).bytes()
 }
 
-fn steps(random: &mut Random) -> u8 {
+pub(super) fn steps(random: &mut Random) -> u8 {
     1 + random.up_to(7)
 }
 
 /// The most places with which a book of these steps has at most so many candidates.
-fn places_within(steps: u8, candidates: usize) -> usize {
+pub(super) fn places_within(steps: u8, candidates: usize) -> usize {
     candidates.ilog(usize::from(steps) + 1) as usize
 }
 
 /// Terms of all kinds in any order, with rules and claims.
-fn mixed(random: &mut Random) -> Draft {
+pub(super) fn mixed(random: &mut Random) -> Draft {
     let mut book = Draft::new(steps(random));
     let candidates = if random.one_in(20) { 1000 } else { random.pick(&[9, 32, 81, 81, 260, 260]) };
     let places = random.below(places_within(book.steps, candidates) + 1);
@@ -96,7 +96,7 @@ fn mixed(random: &mut Random) -> Draft {
 }
 
 /// Adds a name that the book does not have yet, or a quantified term.
-fn add_place(random: &mut Random, book: &mut Draft, roles: &[u8]) -> u8 {
+pub(super) fn add_place(random: &mut Random, book: &mut Draft, roles: &[u8]) -> u8 {
     let free: Vec<u8> = (0..16).filter(|&name| !book.terms.contains(&[NAME, name, 0])).collect();
     let name = book.terms.is_empty() || (!free.is_empty() && random.one_in(3));
     if name {
@@ -125,7 +125,7 @@ fn child(random: &mut Random, book: &Draft) -> u8 {
     }
 }
 
-fn add_rules(random: &mut Random, book: &mut Draft) {
+pub(super) fn add_rules(random: &mut Random, book: &mut Draft) {
     if book.terms.is_empty() {
         return;
     }
@@ -134,12 +134,12 @@ fn add_rules(random: &mut Random, book: &mut Draft) {
     }
 }
 
-fn any_term(random: &mut Random, book: &Draft) -> u8 {
+pub(super) fn any_term(random: &mut Random, book: &Draft) -> u8 {
     random.below(book.terms.len()) as u8
 }
 
 /// Claims about some of the individuals, up to any of the eight.
-fn add_claims(random: &mut Random, book: &mut Draft, roles: &[u8]) {
+pub(super) fn add_claims(random: &mut Random, book: &mut Draft, roles: &[u8]) {
     let mentioned: Vec<u8> = (0..1 + random.below(4)).map(|_| random.pick(&[0, 0, 1, 1, 2, 3, 5, 7])).collect();
     if !book.terms.is_empty() {
         for _ in 0..random.pick(&[0, 1, 1, 2, 3, 5]) {
@@ -300,7 +300,7 @@ fn too_wide(random: &mut Random) -> Draft {
 
 /// The book with pairs. In three of four first a few roles are dealt out anew to quantified terms and link claims, since
 /// pairs of roles that no term uses say nothing.
-fn with_pairs(random: &mut Random, kind: fn(&mut Random) -> Draft) -> Draft {
+pub(super) fn with_pairs(random: &mut Random, kind: fn(&mut Random) -> Draft) -> Draft {
     let mut book = kind(random);
     if !random.one_in(4) {
         let few = some_roles(random);
@@ -313,7 +313,7 @@ fn with_pairs(random: &mut Random, kind: fn(&mut Random) -> Draft) -> Draft {
 }
 
 /// Quantified terms of several roles over few children, and claims on links of these roles, so that pairs tell.
-fn layered(random: &mut Random) -> Draft {
+pub(super) fn layered(random: &mut Random) -> Draft {
     let mut book = Draft::new(random.pick(&[1, 1, 1, 2, 2, 3]));
     let roles = some_roles(random);
     let (top, bottom, a) = (book.term(TOP, 0, 0), book.term(BOTTOM, 0, 0), book.term(NAME, 0, 0));

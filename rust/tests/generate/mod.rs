@@ -5,3 +5,4 @@ pub mod damage;
 pub mod random;
 pub mod sets;
 pub mod sheets;
+pub mod tables;

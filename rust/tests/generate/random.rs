@@ -15,6 +15,11 @@ impl Random {
         Random::of(!seed, case)
     }
 
+    /// Likewise, once more.
+    pub fn of_tables(seed: u64, case: u64) -> Random {
+        Random::of(seed ^ 1 << 63, case)
+    }
+
     fn next(&mut self) -> u64 {
         self.0 = self.0.wrapping_add(0x9E37_79B9_7F4A_7C15);
         let mut z = self.0;

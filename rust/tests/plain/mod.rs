@@ -1,4 +1,4 @@
-//! The specification (document 01, and P1 and P2 of document 02) once more, written from its text alone and the obvious
+//! The specification (document 01, and P1, P2 and P4 of document 02) once more, written from its text alone and the obvious
 //! way: bytes are read into plain values, each sentence is a function, and speed is no aim but in placing. It is the other
 //! side of the differential test and of the sweeps.
 //!
@@ -8,6 +8,7 @@ pub mod book;
 pub mod candidates;
 pub mod elimination;
 pub mod grades;
+pub mod implied;
 pub mod placement;
 pub mod sheets;
 
@@ -66,17 +67,35 @@ impl Plain {
         let count = self.count()?;
         ask(11, marks.len() >= count)?;
         ask(12, placement.len() >= 16)?;
-        let survivors = &self.eliminated()?.survivors;
-        for (candidate, mark) in marks[..count].iter_mut().enumerate() {
-            *mark = u8::from(survivors.contains_key(&candidate));
-        }
+        let survivors = self.mark(&mut marks[..count])?;
         let decision = self.decision()?;
         if let Decision::HoldsTogether(places) = decision {
             for (bytes, &candidate) in placement.chunks_mut(2).zip(places) {
                 bytes.copy_from_slice(&(candidate as u16).to_be_bytes());
             }
         }
-        Ok((decision, survivors.len()))
+        Ok((decision, survivors))
+    }
+
+    /// Sets a mark for each candidate, and gives the number of survivors.
+    fn mark(&self, marks: &mut [u8]) -> Result<usize, u8> {
+        let survivors = &self.eliminated()?.survivors;
+        for (candidate, mark) in marks.iter_mut().enumerate() {
+            *mark = u8::from(survivors.contains_key(&candidate));
+        }
+        Ok(survivors.len())
+    }
+
+    /// "A call without placement sets the marks, returns the survivor count and fills" the table. "23 when the table buffer
+    /// is shorter than the square of the term count, after 11."
+    pub fn implied_rules(&self, marks: &mut [u8], table: &mut [u8]) -> Result<usize, u8> {
+        let (book, count) = (self.book()?, self.count()?);
+        ask(11, marks.len() >= count)?;
+        let cells = book.terms.len().pow(2);
+        ask(23, table.len() >= cells)?;
+        let survivors = self.mark(&mut marks[..count])?;
+        table[..cells].copy_from_slice(&book.implied_rules(&self.eliminated()?.survivors));
+        Ok(survivors)
     }
 
     pub fn write_sheet(&self, marks: &mut [u8], placement: &mut [u8], sheet: &mut [u8]) -> Result<usize, u8> {

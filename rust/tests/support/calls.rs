@@ -1,4 +1,4 @@
-//! The seven calls, made of each side and answered in one form.
+//! The eight calls, made of each side and answered in one form.
 
 use zegbiko::raw;
 
@@ -13,6 +13,7 @@ pub enum Call {
     Check,
     Count,
     Decide { marks: usize, placement: usize },
+    ImpliedRules { marks: usize, table: usize },
     WriteSheet { marks: usize, placement: usize, sheet: usize },
     WorkOut { grid: usize },
     Grade { candidate: usize, term: usize },
@@ -25,6 +26,7 @@ impl Call {
             Call::Check => "check",
             Call::Count => "count",
             Call::Decide { .. } => "decide",
+            Call::ImpliedRules { .. } => "implied_rules",
             Call::WriteSheet { .. } => "write_sheet",
             Call::WorkOut { .. } => "work_out",
             Call::Grade { .. } => "grade",
@@ -35,6 +37,7 @@ impl Call {
     pub fn lengths(self) -> Vec<usize> {
         match self {
             Call::Decide { marks, placement } => vec![marks, placement],
+            Call::ImpliedRules { marks, table } => vec![marks, table],
             Call::WriteSheet { marks, placement, sheet } => vec![marks, placement, sheet],
             Call::WorkOut { grid } => vec![grid],
             Call::Check | Call::Count | Call::Grade { .. } | Call::Link { .. } => vec![],
@@ -67,6 +70,9 @@ pub fn plain(book: &Plain, sheet: &[u8], call: Call, buffers: &mut [Buffer]) -> 
                 Decision::NoModel => answer([0, 3, survivors]),
             })
         }
+        (Call::ImpliedRules { .. }, [marks, table]) => {
+            book.implied_rules(marks.contents_mut(), table.contents_mut()).map(|survivors| answer([0, survivors]))
+        }
         (Call::WriteSheet { .. }, [marks, placement, sheet]) => book
             .write_sheet(marks.contents_mut(), placement.contents_mut(), sheet.contents_mut())
             .map(|length| answer([0, length])),
@@ -92,6 +98,10 @@ pub fn wrapped(book: &[u8], sheet: &[u8], call: Call, buffers: &mut [Buffer]) ->
         (Call::Decide { .. }, [marks, placement]) => {
             zegbiko::decide(book, marks.contents_mut(), placement.contents_mut())
                 .map(|decided| answer([0, decided.outcome as usize, decided.survivors]))
+        }
+        (Call::ImpliedRules { .. }, [marks, table]) => {
+            zegbiko::implied_rules(book, marks.contents_mut(), table.contents_mut())
+                .map(|survivors| answer([0, survivors]))
         }
         (Call::WriteSheet { .. }, [marks, placement, sheet]) => {
             zegbiko::write_sheet(book, marks.contents_mut(), placement.contents_mut(), sheet.contents_mut())
@@ -128,6 +138,11 @@ pub fn raw(book: &[u8], sheet: &[u8], call: Call, buffers: &mut [Buffer]) -> Ans
                 let ((m, m_length), (p, p_length)) = (out(marks), out(placement));
                 let decided = raw::zegbiko_decide(pointer, length, m, m_length, p, p_length);
                 answer([decided.refusal.into(), decided.outcome.into(), decided.survivors])
+            }
+            (Call::ImpliedRules { .. }, [marks, table]) => {
+                let ((m, m_length), (t, t_length)) = (out(marks), out(table));
+                let implied = raw::zegbiko_implied_rules(pointer, length, m, m_length, t, t_length);
+                answer([implied.refusal.into(), implied.survivors])
             }
             (Call::WriteSheet { .. }, [marks, placement, sheet]) => {
                 let ((m, m_length), (p, p_length), (s, s_length)) = (out(marks), out(placement), out(sheet));
