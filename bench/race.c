@@ -19,8 +19,7 @@ typedef struct {
     double best, spent;
 } lane;
 
-// Milliseconds that this thread has had of the processor: what others do on the machine does not count.
-static double clock_ms(void) {
+double clock_ms(void) {
     struct timespec t;
     clock_gettime(CLOCK_THREAD_CPUTIME_ID, &t);
     return t.tv_sec * 1e3 + t.tv_nsec / 1e6;
