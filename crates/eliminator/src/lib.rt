@@ -9,6 +9,7 @@ ghost use Rattle.claims.specs.Rules.{rulesOf, RulesRight};
 ghost use Rattle.gradings.specs.Gradings.{grading};
 ghost use Rattle.elimination.specs.Survivors.{survivors};
 ghost use Rattle.elimination.specs.Marks.{marksOf};
+ghost use Rattle.places.specs.Homes.{HomesOf};
 ghost use Rattle.partition.specs.Rows.{Enrolled};
 ghost use Rattle.eliminator.specs.Filling.{RowObeys, Roomy, Entered, Indexed};
 ghost use Rattle.eliminator.specs.Eliminating.{Task, Eliminated};
@@ -16,6 +17,7 @@ use grades::fill_row;
 use gradings::Logic;
 use gradings::base;
 use partition::enroll;
+use places::find_homes;
 use slots::put_slot_row;
 use sweeps::settle;
 use zones::make_zones;
@@ -94,8 +96,9 @@ fn enter(
     marks: &mut [u8],
     c: usize,
     t: Tally,
+    homes: &[u8; 64],
 ) -> Tally
-    requires { ⌜ Task logic (now terms) (now slots) (now rules) (length (now marks)) ⌝ }
+    requires { ⌜ Task logic (now terms) (now slots) (now rules) (length (now marks)) × HomesOf (now terms) (now homes) ⌝ }
     requires { ⌜ Roomy (now own) (now child) (now source) (now target) × (16384 ≤ length (now first)) × (16384 ≤ length (now second)) × (c < length (now marks)) ⌝ }
     requires { ⌜ Entered (grading logic (termsOf (now terms))) (rulesOf (now rules)) (now slots) (now own) (now child) (now source) (now target) (now marks) c t ⌝ }
     requires { ⌜ Indexed (now first) (now second) t ⌝ }
@@ -105,7 +108,7 @@ fn enter(
 {
     let mut row = [0u8; 64];
     let mut part = [0u8; 32];
-    fill_row(terms, logic, c, &mut row);
+    fill_row(terms, logic, c, &mut row, homes);
     let mark = mark_by_rules(rules, &row);
     marks[c] = mark;
     let mut next = t;
@@ -146,6 +149,7 @@ fn enter_in(
     ensures { λ r. ⌜ Entered (grading logic (termsOf (now (terms .entry)))) (rulesOf (now (rules .entry))) (now (slots .entry)) (now (own .exit)) (now (child .exit))
         (now (source .exit)) (now (target .exit)) (now (marks .exit)) (length (now (marks .entry))) r ⌝ }
 {
+    let homes = find_homes(terms);
     let count = marks.len();
     let mut t = Tally {
         left: 0,
@@ -168,6 +172,7 @@ fn enter_in(
             marks,
             c,
             t,
+            &homes,
         );
         c += 1;
     }

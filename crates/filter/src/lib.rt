@@ -7,6 +7,7 @@ ghost use Rattle.semantics.specs.Books.{Mentions};
 ghost use Rattle.claims.specs.Claims.{claimCount, membershipOf, membershipAt};
 ghost use Rattle.slots.specs.Slots.{slotCount};
 ghost use Rattle.grades.specs.Rows.{entry};
+ghost use Rattle.places.specs.Homes.{HomesOf};
 ghost use Rattle.network.specs.Constraints.{AllMet};
 ghost use Rattle.network.specs.Network.{between as betweenOf, Wired};
 ghost use Rattle.domains.specs.Consistent.{Problem};
@@ -23,6 +24,7 @@ use network::all_met;
 use network::between;
 use network::put_row;
 use network::row_at;
+use places::find_homes;
 
 // ---- by the grades of a candidate, and its row of slots
 
@@ -141,15 +143,16 @@ fn enter(
     c: usize,
     rows: &mut [u8],
     table: &mut [u8],
+    homes: &[u8; 64],
 )
-    requires { ⌜ Task logic (now terms) (now slots) (now memberships) ⌝ }
+    requires { ⌜ Task logic (now terms) (now slots) (now memberships) × HomesOf (now terms) (now homes) ⌝ }
     requires { ⌜ Wired logic (2 * slotCount (now slots)) (now net) (now ends) ⌝ }
     requires { ⌜ (individuals ≤ 8) × (c < 16384) × (524288 ≤ length (now rows)) × (131072 ≤ length (now table)) ⌝ }
     ensures { λ _. ⌜ Entered logic (now (terms .entry)) (now (slots .entry)) (now (memberships .entry)) (now (net .entry)) (now (ends .entry)) individuals c
         (now (rows .entry)) (now (rows .exit)) (now (table .entry)) (now (table .exit)) ⌝ }
 {
     let mut grades = [0u8; 64];
-    fill_row(terms, logic, c, &mut grades);
+    fill_row(terms, logic, c, &mut grades, homes);
     put_row(slots, &grades, rows, c);
     allow_row(
         logic,
@@ -186,6 +189,7 @@ pub fn fill_tables(
     ensures { λ _. ⌜ Filtered logic (now (terms .entry)) (now (slots .entry)) (now (memberships .entry)) (now (net .entry)) (now (ends .entry))
         (now (marks .entry)) individuals count (now (rows .exit)) (now (table .exit)) ⌝ }
 {
+    let homes = find_homes(terms);
     let mut entered = 0;
     while entered < count {
         let c = entered;
@@ -204,6 +208,7 @@ pub fn fill_tables(
             c,
             rows,
             table,
+            &homes,
         );
     }
 }

@@ -3,9 +3,10 @@
 -- Assumes nothing.
 use mathlib.Core.Path.{_≡_, refl, sym, ap, subst, _∙_}
 use mathlib.Core.Bool.{Bool}
-use mathlib.Core.Logic.{_⊎_, dite, if-pos, if-neg}
+use mathlib.Core.Logic.{_⊎_, _↔_, dite, if-pos, if-neg}
 use mathlib.Core.List.{List}
 use Prim.Native.Nat.{ℕ, _+_, _/_, _%_, _^_, _≤_, _<_}
+use native.Mathlib.Decide.{decLt}
 use native.Mathlib.Numerals.{add-one}
 use native.Mathlib.Omega.{arith}
 use lib.ListN.{length, getD}
@@ -21,30 +22,33 @@ use Rattle.semantics.specs.Interpretations.{Grading, WellFormed}
 use Rattle.semantics.specs.Links.{Governs, TermAllows}
 use Rattle.semantics.proofs.Terms.{child-lt, local-same}
 use Rattle.semantics.proofs.Quantified.{quantified-alike}
-use Rattle.types.specs.Candidates.{place, IsPlace, isPlace?, placesBefore, gradeIn}
-use Rattle.types.proofs.Candidates.{placesBefore-zero, placesBefore-place, placesBefore-other, gradeIn-local, gradeIn-le, gradeIn-place}
+use Rattle.types.specs.Candidates.{place, IsPlace, Opens, opens?, home as homeOf, gradeIn}
+use Rattle.types.proofs.Candidates.{home-no-later, opens-home, gradeIn-local, gradeIn-le, gradeIn-opens, gradeIn-home}
+use Rattle.places.proofs.Places.{other-kind, opens-not, openBefore, none-open, open-more, open-same}
 use Rattle.gradings.specs.Gradings.{connectivesOf, grading}
 use Rattle.gradings.specs.declared.Logic.{Logic}
 use Rattle.gradings.proofs.Gradings.{grading-well-formed}
 use Rattle.sections.specs.Terms.{termOf, quantifierOf, kindAt, aAt, bAt, termCount, termAt, termsOf, TermsRight}
-use Rattle.sections.proofs.Terms.{described-kind, by-kind, term-kind, length-terms, term-at, terms-ordered, terms-apart, quantified-term, other-term}
-use Rattle.grades.specs.OneTerm.{withPlaces, nextGrade, restAfter}
+use Rattle.sections.proofs.Terms.{described-kind, by-kind, term-kind, length-terms, term-at, terms-ordered, quantified-term, other-term}
+use Rattle.grades.specs.OneTerm.{withPlaces, nextGrade, restAfter, gradeOfPlace, restOfPlace}
 
 -- ---- the table's grade
 
-module _ (l : Logic) (d : ℕ) (s xs : List ℕ) where
+module _ (l : Logic) (d home : ℕ) (s xs : List ℕ) where
+  abbrev inTable : Term → ℕ
+  inTable t = local (withPlaces l (gradeOfPlace d home xs)) (length xs) t (λ j. getD xs j 0)
+
   -- the table's grade by kind
-  pub grade-kind : (k : ℕ) → kindAt s (length xs) ≡ k
-      → local (withPlaces l d) (length xs) (termOf k (aAt s (length xs)) (bAt s (length xs))) (λ j. getD xs j 0) ≡ nextGrade l d s xs
+  pub grade-kind : (k : ℕ) → kindAt s (length xs) ≡ k → inTable (termOf k (aAt s (length xs)) (bAt s (length xs))) ≡ nextGrade l d home s xs
   unfolding nextGrade
-  grade-kind k e = ap (λ (t : Term). local (withPlaces l d) (length xs) t (λ j. getD xs j 0)) (sym (term-kind s (length xs) k e))
+  grade-kind k e = ap inTable (sym (term-kind s (length xs) k e))
 
   -- the kinds that are left are the places
   pub grade-place : TermsRight s → length xs < termCount s
-      → let k : ℕ = kindAt s (length xs) in ¬ (k ≡ 1) → ¬ (k ≡ 2) → ¬ (k ≡ 3) → ¬ (k ≡ 6) → ¬ (k ≡ 7) → d ≡ nextGrade l d s xs
+      → let k : ℕ = kindAt s (length xs) in ¬ (k ≡ 1) → ¬ (k ≡ 2) → ¬ (k ≡ 3) → ¬ (k ≡ 6) → ¬ (k ≡ 7) → gradeOfPlace d home xs ≡ nextGrade l d home s xs
   unfolding nextGrade
   grade-place ok h =
-      by-kind (λ k t. k < 8 → ¬ (k ≡ 1) → ¬ (k ≡ 2) → ¬ (k ≡ 3) → ¬ (k ≡ 6) → ¬ (k ≡ 7) → d ≡ local (withPlaces l d) (length xs) t (λ j. getD xs j 0))
+      by-kind (λ k t. k < 8 → ¬ (k ≡ 1) → ¬ (k ≡ 2) → ¬ (k ≡ 3) → ¬ (k ≡ 6) → ¬ (k ≡ 7) → gradeOfPlace d home xs ≡ inTable t)
       (aAt s (length xs)) (bAt s (length xs)) (λ _ _ _ _ _ _. refl) (λ _ n _ _ _ _. absurd (n refl)) (λ _ _ n _ _ _. absurd (n refl))
       (λ _ _ _ n _ _. absurd (n refl)) (λ _ _ _ _ _ _. refl) (λ _ _ _ _ _ _. refl) (λ _ _ _ _ n _. absurd (n refl))
       (λ _ _ _ _ _ n. absurd (n refl)) (λ k g l _ _ _ _ _. absurd (omega arith)) (kindAt s (length xs))
@@ -52,28 +56,80 @@ module _ (l : Logic) (d : ℕ) (s xs : List ℕ) where
 
 -- ---- what is left of a candidate's digits
 
-pub rest-place : (B c : ℕ) (t : Term) → IsPlace (place t) → c / B ≡ restAfter B t c
-unfolding restAfter
-rest-place B c t p = sym (if-pos (isPlace? (place t)) p (c / B) c)
+module _ (B c : ℕ) (ts : List Term) (i : ℕ) where
+  pub rest-opens : Opens ts i → c / B ≡ restAfter B ts i c
+  unfolding restAfter
+  rest-opens o = sym (if-pos (opens? ts i) o (c / B) c)
 
-pub rest-other : (B c : ℕ) (t : Term) → ¬ IsPlace (place t) → c ≡ restAfter B t c
-unfolding restAfter
-rest-other B c t n = sym (if-neg (isPlace? (place t)) n (c / B) c)
+  pub rest-other : ¬ Opens ts i → c ≡ restAfter B ts i c
+  unfolding restAfter
+  rest-other n = sym (if-neg (opens? ts i) n (c / B) c)
 
--- what is left at term i: the digits of the places before it are off
+-- what is left at term i: the digits of the places that were opened before it are off
 abbrev pub restAt : (N : ℕ) (s : List ℕ) (c i : ℕ) → ℕ
-restAt N s c i = c / (N + 1) ^ placesBefore (termsOf s) i
+restAt N s c i = c / (N + 1) ^ openBefore (termsOf s) i
 
 module _ (N : ℕ) (s : List ℕ) (c : ℕ) where
   pub rest-start : c ≡ restAt N s c 0
-  rest-start = sym (rw (placesBefore-zero (termsOf s)) (off-zero (N + 1) c))
+  rest-start = sym (rw (none-open (termsOf s)) (off-zero (N + 1) c))
 
-  pub rest-next : (i : ℕ) → i < termCount s → restAfter (N + 1) (termAt s i) (restAt N s c i) ≡ restAt N s c (i + 1)
-  rest-next i h =
-      let t = term (termsOf s) i in
-      rw (add-one i, ← term-at s i h) (dite (isPlace? (place t))
-      (λ p. rw (placesBefore-place (termsOf s) i p) (sym (rest-place (N + 1) (restAt N s c i) t p) ∙ off-suc (N + 1) (placesBefore (termsOf s) i) c))
-      (λ n. rw (placesBefore-other (termsOf s) i n) (sym (rest-other (N + 1) (restAt N s c i) t n))))
+  pub rest-next : (i : ℕ) → restAfter (N + 1) (termsOf s) i (restAt N s c i) ≡ restAt N s c (i + 1)
+  rest-next i =
+      let ts = termsOf s in
+      dite (opens? ts i)
+      (λ o. sym (rest-opens (N + 1) (restAt N s c i) ts i o) ∙ off-suc (N + 1) (openBefore ts i) c
+      ∙ ap (λ (k : ℕ). c / (N + 1) ^ k) (sym (add-one (openBefore ts i)) ∙ open-more ts i o))
+      (λ n. sym (rest-other (N + 1) (restAt N s c i) ts i n) ∙ ap (λ (k : ℕ). c / (N + 1) ^ k) (open-same ts i n))
+
+-- ---- the grade of the place that a term has
+
+module _ (d home : ℕ) (xs : List ℕ) where
+  pub place-earlier : home < length xs → getD xs home 0 ≡ gradeOfPlace d home xs
+  unfolding gradeOfPlace
+  place-earlier h = sym (if-pos (decLt home (length xs)) h _ _)
+
+  pub place-digit : ¬ (home < length xs) → d ≡ gradeOfPlace d home xs
+  unfolding gradeOfPlace
+  place-digit n = sym (if-neg (decLt home (length xs)) n _ _)
+
+module _ (B home : ℕ) (xs : List ℕ) (c : ℕ) where
+  pub left-earlier : home < length xs → c ≡ restOfPlace B home xs c
+  unfolding restOfPlace
+  left-earlier h = sym (if-pos (decLt home (length xs)) h _ _)
+
+  pub left-digit : ¬ (home < length xs) → c / B ≡ restOfPlace B home xs c
+  unfolding restOfPlace
+  left-digit n = sym (if-neg (decLt home (length xs)) n _ _)
+
+-- what the next term leaves: by its kind none has a place, or its place tells
+module _ (B c : ℕ) (s xs : List ℕ) (h : length xs < termCount s) where
+  pub rest-kind : (k : ℕ) → kindAt s (length xs) ≡ k → ¬ (k ≡ 0) → ¬ (k ≡ 4) → ¬ (k ≡ 5) → c ≡ restAfter B (termsOf s) (length xs) c
+  rest-kind k e n0 n4 n5 =
+      rest-other B c (termsOf s) (length xs)
+      (opens-not s (length xs) h (other-kind s (length xs) (λ z. n0 (sym e ∙ z)) (λ z. n4 (sym e ∙ z)) (λ z. n5 (sym e ∙ z))))
+
+  pub rest-place : (home : ℕ) → TermsRight s → home ≡ homeOf (termsOf s) (length xs)
+      → let k : ℕ = kindAt s (length xs) in ¬ (k ≡ 1) → ¬ (k ≡ 2) → ¬ (k ≡ 3) → ¬ (k ≡ 6) → ¬ (k ≡ 7)
+      → restOfPlace B home xs c ≡ restAfter B (termsOf s) (length xs) c
+  rest-place home ok e n1 n2 n3 n6 n7 =
+      dite (decLt home (length xs))
+      (λ m. sym (left-earlier B home xs c m) ∙ rest-other B c (termsOf s) (length xs) (λ o. omega (arith, e, u .0 o .1)))
+      (λ n. sym (left-digit B home xs c n) ∙ rest-opens B c (termsOf s) (length xs)
+      (u .1 (subst (λ (t : Term). IsPlace (place t)) (sym (term-at s (length xs) h)) has, omega (arith, e, home-no-later (termsOf s) (length xs) below))))
+    where
+      below : length xs < length (termsOf s)
+      below = rw (length-terms s) h
+
+      u : Opens (termsOf s) (length xs) ↔ (IsPlace (place (term (termsOf s) (length xs))) × (homeOf (termsOf s) (length xs) ≡ length xs))
+      u = opens-home (termsOf s) (length xs) below
+
+      has : IsPlace (place (termAt s (length xs)))
+      has =
+          by-kind (λ k t. k < 8 → ¬ (k ≡ 1) → ¬ (k ≡ 2) → ¬ (k ≡ 3) → ¬ (k ≡ 6) → ¬ (k ≡ 7) → IsPlace (place t))
+          (aAt s (length xs)) (bAt s (length xs)) (λ _ _ _ _ _ _. tt) (λ _ n _ _ _ _. absurd (n refl)) (λ _ _ n _ _ _. absurd (n refl))
+          (λ _ _ _ n _ _. absurd (n refl)) (λ _ _ _ _ _ _. tt) (λ _ _ _ _ _ _. tt) (λ _ _ _ _ n _. absurd (n refl))
+          (λ _ _ _ _ _ n. absurd (n refl)) (λ k g l _ _ _ _ _. absurd (omega arith)) (kindAt s (length xs))
+          (described-kind (length xs) (kindAt s (length xs)) (aAt s (length xs)) (bAt s (length xs)) (ok (length xs) h .0)) n1 n2 n3 n6 n7
 
 -- ---- a row, one grade after the other
 
@@ -92,34 +148,44 @@ module _ (l : Logic) (s : List ℕ) (ok : TermsRight s) (c : ℕ) where
   earlier-le i h =
       every-table (λ x. x ≤ l .steps) (gradeIn G c) i 0 (omega arith) (λ j g. gradeIn-le G w c j (rw (length-terms s) (omega arith)))
 
-  -- over them the table gives the grade of term i, where a place has the lowest digit left
-  pub grade-next : (i rest d : ℕ) (xs : List ℕ) → i < termCount s → xs ≡ earlier l s c i → rest ≡ restAt (l .steps) s c i → d ≡ rest % (l .steps + 1)
-      → nextGrade l d s xs ≡ gradeIn G c i
+  -- over them the table gives the grade of term i
+  pub grade-next : (i rest d home : ℕ) (xs : List ℕ) → i < termCount s → xs ≡ earlier l s c i → rest ≡ restAt (l .steps) s c i → d ≡ rest % (l .steps + 1)
+      → home ≡ homeOf (termsOf s) i → nextGrade l d home s xs ≡ gradeIn G c i
   unfolding nextGrade
-  grade-next i rest d xs h ex er ed =
-      rw (ap length ex ∙ length-table (gradeIn G c) i)
-      (local-same (withPlaces l d) i (termAt s i) (subst (Children i) e (terms-ordered s ok i below)) _ (gradeIn G c)
+  grade-next i rest d home xs h ex er ed eh =
+      rw long
+      (local-same (withPlaces l own) i (termAt s i) (subst (Children i) e (terms-ordered s ok i below)) _ (gradeIn G c)
       (λ j m. rw ex (getD-table (gradeIn G c) i j 0 m)) ∙ go (termAt s i) e)
     where
+      own : ℕ
+      own = gradeOfPlace d home xs
+
       below : i < length (termsOf s)
       below = rw (length-terms s) h
 
       e : term (termsOf s) i ≡ termAt s i
       e = term-at s i h
 
-      own : (t : Term) → term (termsOf s) i ≡ t → IsPlace (place t) → d ≡ gradeIn G c i
-      own t q p =
-          ed ∙ ap (λ (z : ℕ). z % (l .steps + 1)) er
-          ∙ sym (gradeIn-place G w (terms-apart s ok) c i below (subst (λ (u : Term). IsPlace (place u)) (sym q) p)
-          ∙ digit-power (l .steps + 1) (placesBefore (termsOf s) i) c)
+      long : length xs ≡ i
+      long = ap length ex ∙ length-table (gradeIn G c) i
 
-      go : (t : Term) → term (termsOf s) i ≡ t → local (withPlaces l d) i t (gradeIn G c) ≡ gradeIn G c i
-      go (name a) q = own (name a) q tt
+      placed : (t : Term) → term (termsOf s) i ≡ t → IsPlace (place t) → own ≡ gradeIn G c i
+      placed t q p =
+          dite (decLt home i)
+          (λ m. sym (place-earlier d home xs (rw long m)) ∙ rw ex (getD-table (gradeIn G c) i home 0 m)
+          ∙ sym (gradeIn-home G w c i below ∙ ap (gradeIn G c) (sym eh)))
+          (λ n. let o : Opens (termsOf s) i =
+          opens-home (termsOf s) i below .1 (subst (λ (u : Term). IsPlace (place u)) (sym q) p, omega (arith, eh, home-no-later (termsOf s) i below)) in
+          sym (place-digit d home xs (rw long n)) ∙ ed ∙ ap (λ (z : ℕ). z % (l .steps + 1)) er
+          ∙ sym (gradeIn-opens G w c i below o ∙ digit-power (l .steps + 1) (openBefore (termsOf s) i) c))
+
+      go : (t : Term) → term (termsOf s) i ≡ t → local (withPlaces l own) i t (gradeIn G c) ≡ gradeIn G c i
+      go (name a) q = placed (name a) q tt
       go (not x) q = sym (gradeIn-local G w c i below (not x) q)
       go (and x y) q = sym (gradeIn-local G w c i below (and x y) q)
       go (or x y) q = sym (gradeIn-local G w c i below (or x y) q)
-      go (some r x) q = own (some r x) q tt
-      go (all r x) q = own (all r x) q tt
+      go (some r x) q = placed (some r x) q tt
+      go (all r x) q = placed (all r x) q tt
       go top q = sym (gradeIn-local G w c i below top q)
       go bottom q = sym (gradeIn-local G w c i below bottom q)
 

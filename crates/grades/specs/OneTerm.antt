@@ -4,9 +4,10 @@
 use mathlib.Core.Logic.{ite}
 use mathlib.Core.List.{List}
 use Prim.Native.Nat.{ℕ, _/_}
+use native.Mathlib.Decide.{decLt}
 use lib.ListN.{length, getD}
 use Rattle.semantics.specs.Terms.{Term, Carrier, local}
-use Rattle.types.specs.Candidates.{place, isPlace?}
+use Rattle.types.specs.Candidates.{opens?}
 use Rattle.gradings.specs.Gradings.{connectivesOf}
 use Rattle.gradings.specs.declared.Logic.{Logic}
 use Rattle.sections.specs.Terms.{termAt}
@@ -24,10 +25,18 @@ withPlaces l d = record {
   at-bottom = 0;
 }
 
--- the table's grade for the next term of the section, where xs has the grades of those before it
-unfoldable pub nextGrade : Logic → (d : ℕ) (s xs : List ℕ) → ℕ
-nextGrade l d s xs = local (withPlaces l d) (length xs) (termAt s (length xs)) (λ j. getD xs j 0)
+-- the grade of the place of the next term, where xs has the grades of the terms before it: that of the earlier term which opens it, or the digit d
+unfoldable pub gradeOfPlace : (d home : ℕ) (xs : List ℕ) → ℕ
+gradeOfPlace d home xs = ite (decLt home (length xs)) (getD xs home 0) d
 
--- what a term leaves of a candidate's digits in base B: a place takes the lowest one off
-unfoldable pub restAfter : (B : ℕ) → Term → ℕ → ℕ
-restAfter B t c = ite (isPlace? (place t)) (c / B) c
+-- and what it leaves of the digits in base B: where it opens the place, it takes the lowest one off
+unfoldable pub restOfPlace : (B home : ℕ) (xs : List ℕ) → ℕ → ℕ
+restOfPlace B home xs c = ite (decLt home (length xs)) c (c / B)
+
+-- the table's grade for the next term of the section, where xs has the grades of those before it
+unfoldable pub nextGrade : Logic → (d home : ℕ) (s xs : List ℕ) → ℕ
+nextGrade l d home s xs = local (withPlaces l (gradeOfPlace d home xs)) (length xs) (termAt s (length xs)) (λ j. getD xs j 0)
+
+-- what term i leaves of a candidate's digits in base B: where it opens a place, it takes the lowest one off
+unfoldable pub restAfter : (B : ℕ) (ts : List Term) (i : ℕ) → ℕ → ℕ
+restAfter B ts i c = ite (opens? ts i) (c / B) c

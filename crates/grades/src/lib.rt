@@ -5,12 +5,14 @@ ghost use Prim.Native.Nat.{ℕ, _+_, _*_, _%_, _<_, _≤_};
 ghost use lib.ListN.{length, getD, take, drop};
 ghost use Rattle.chain.specs.Decisions.{Tells};
 ghost use Rattle.semantics.specs.Links.{TermAllows, Allows, linkBetween};
-ghost use Rattle.types.specs.Candidates.{gradeIn};
+ghost use Rattle.types.specs.Candidates.{home as homeOf, gradeIn};
 ghost use Rattle.types.specs.Links.{link};
 ghost use Rattle.gradings.specs.Gradings.{grading};
-ghost use Rattle.sections.specs.Terms.{termCount, termAt, termsOf, TermsRight};
+ghost use Rattle.places.specs.Homes.{HomesOf};
+ghost use Rattle.sections.specs.Terms.{termCount, termsOf, TermsRight};
 ghost use Rattle.grades.specs.Rows.{rowOf, HasGrades, entry, rowAt};
-ghost use Rattle.grades.specs.OneTerm.{nextGrade, restAfter};
+ghost use Rattle.grades.specs.OneTerm.{nextGrade, restAfter, gradeOfPlace, restOfPlace};
+use encoding::wide;
 use gradings::Logic;
 use gradings::base;
 use gradings::conjunction;
@@ -18,7 +20,7 @@ use gradings::disjunction;
 use gradings::governs;
 use gradings::negation;
 use gradings::permits;
-use places::is_place;
+use places::find_homes;
 
 // ---- a child's grade
 
@@ -39,58 +41,86 @@ fn lowest_digit(logic: Logic, rest: usize) -> u8
     (rest % base(logic)) as u8
 }
 
-// What term `i` leaves of a candidate's digits.
-fn rest_after(terms: &[u8], logic: Logic, i: usize, rest: usize) -> usize
-    requires { ⌜ i < termCount (now terms) ⌝ }
-    ensures { λ r. ⌜ r ≡ restAfter (logic .steps + 1) (termAt (now (terms .entry)) i) rest ⌝ }
-{
-    if is_place(terms, i) {
-        return rest / base(logic);
-    }
-    rest
+// A term's grade, and what it leaves of a candidate's digits.
+pub struct Graded {
+    pub grade: u8,
+    pub rest: usize,
 }
 
-// The grade of the next term, where `earlier` has those of the terms before it; a place has the grade `d`.
-fn term_grade(terms: &[u8], logic: Logic, d: u8, earlier: &[u8]) -> u8
+// The next term's, where it has a place, whose home is given: the grade of the earlier term that opens the place, or the lowest digit, which is taken off.
+fn place_grade(logic: Logic, home: u8, rest: usize, earlier: &[u8]) -> Graded
+    ensures { λ r. ⌜ r .grade ≡ gradeOfPlace (rest % (logic .steps + 1)) home (now (earlier .entry)) ⌝ }
+    ensures { λ r. ⌜ r .rest ≡ restOfPlace (logic .steps + 1) home (now (earlier .entry)) rest ⌝ }
+{
+    let at = wide(home);
+    if at < earlier.len() {
+        let grade = earlier[at];
+        return Graded { grade, rest };
+    }
+    let digit = lowest_digit(logic, rest);
+    let left = rest / base(logic);
+    Graded {
+        grade: digit,
+        rest: left,
+    }
+}
+
+// The next term's, where `earlier` has the grades of the terms before it.
+fn term_grade(terms: &[u8], logic: Logic, home: u8, rest: usize, earlier: &[u8]) -> Graded
     requires { ⌜ TermsRight (now terms) ⌝ }
-    requires { ⌜ (length (now earlier) < termCount (now terms)) × ((j : ℕ) → getD (now earlier) j 0 ≤ logic .steps) ⌝ }
-    ensures { λ r. ⌜ r ≡ nextGrade logic d (now (terms .entry)) (now (earlier .entry)) ⌝ }
+    requires { ⌜ (length (now earlier) < termCount (now terms)) × ((j : ℕ) → getD (now earlier) j 0 ≤ logic .steps) × (home ≡ homeOf (termsOf (now terms)) (length (now earlier))) ⌝ }
+    ensures { λ r. ⌜ r .grade ≡ nextGrade logic (rest % (logic .steps + 1)) home (now (terms .entry)) (now (earlier .entry)) ⌝ }
+    ensures { λ r. ⌜ r .rest ≡ restAfter (logic .steps + 1) (termsOf (now (terms .entry))) (length (now (earlier .entry))) rest ⌝ }
 {
     let i = earlier.len();
     let kind = terms[3 * i];
     let a = 3 * i + 1;
     let b = 3 * i + 2;
     match kind {
-        1 => negation(logic, child_grade(terms, a, earlier)),
-        2 => conjunction(
-            logic,
-            child_grade(terms, a, earlier),
-            child_grade(terms, b, earlier),
-        ),
-        3 => disjunction(
-            logic,
-            child_grade(terms, a, earlier),
-            child_grade(terms, b, earlier),
-        ),
-        6 => logic.steps,
-        7 => 0,
-        _ => d,
+        1 => Graded {
+            grade: negation(logic, child_grade(terms, a, earlier)),
+            rest,
+        },
+        2 => Graded {
+            grade: conjunction(
+                logic,
+                child_grade(terms, a, earlier),
+                child_grade(terms, b, earlier),
+            ),
+            rest,
+        },
+        3 => Graded {
+            grade: disjunction(
+                logic,
+                child_grade(terms, a, earlier),
+                child_grade(terms, b, earlier),
+            ),
+            rest,
+        },
+        6 => Graded {
+            grade: logic.steps,
+            rest,
+        },
+        7 => Graded { grade: 0, rest },
+        _ => place_grade(logic, home, rest, earlier),
     }
 }
 
-// Fills the row with the grades of all terms in candidate `c`, in one pass: each place takes the next digit of `c`.
-pub fn fill_row(terms: &[u8], logic: Logic, c: usize, row: &mut [u8])
+// Fills the row with the grades of all terms in candidate `c`, in one pass: each term that opens a place takes the next digit of `c`. The homes are
+// found once, by whoever fills many rows.
+pub fn fill_row(terms: &[u8], logic: Logic, c: usize, row: &mut [u8], homes: &[u8; 64])
     requires { ⌜ TermsRight (now terms) ⌝ }
-    requires { ⌜ termCount (now terms) ≤ length (now row) ⌝ }
+    requires { ⌜ (termCount (now terms) ≤ 64) × (termCount (now terms) ≤ length (now row)) × HomesOf (now terms) (now homes) ⌝ }
     ensures { λ _. ⌜ now (row .exit) ≡ rowOf (grading logic (termsOf (now (terms .entry)))) c ++ drop (termCount (now (terms .entry))) (now (row .entry)) ⌝ }
 {
     let count = terms.len() / 3;
     let mut rest = c;
     let mut i = 0;
     while i < count {
-        let g = term_grade(terms, logic, lowest_digit(logic, rest), &row[..i]);
-        row[i] = g;
-        rest = rest_after(terms, logic, i, rest);
+        let home = homes[i];
+        let g = term_grade(terms, logic, home, rest, &row[..i]);
+        row[i] = g.grade;
+        rest = g.rest;
         i += 1;
     }
 }
@@ -101,8 +131,9 @@ pub fn grade_of(terms: &[u8], logic: Logic, c: usize, i: usize) -> u8
     requires { ⌜ (termCount (now terms) ≤ 64) × (i < termCount (now terms)) ⌝ }
     ensures { λ r. ⌜ r ≡ gradeIn (grading logic (termsOf (now (terms .entry)))) c i ⌝ }
 {
+    let homes = find_homes(terms);
     let mut row = [0u8; 64];
-    fill_row(terms, logic, c, &mut row);
+    fill_row(terms, logic, c, &mut row, &homes);
     row[i]
 }
 
@@ -119,15 +150,15 @@ pub fn row_at(rows: &[u8], k: usize) -> &[u8]
 }
 
 // Makes the row of candidate `c` row `k`. Those before it stay.
-pub fn put_row(terms: &[u8], logic: Logic, c: usize, rows: &mut [u8], k: usize)
+pub fn put_row(terms: &[u8], logic: Logic, c: usize, rows: &mut [u8], k: usize, homes: &[u8; 64])
     requires { ⌜ TermsRight (now terms) ⌝ }
-    requires { ⌜ (termCount (now terms) ≤ 64) × (64 * k + 64 ≤ length (now rows)) ⌝ }
+    requires { ⌜ (termCount (now terms) ≤ 64) × (64 * k + 64 ≤ length (now rows)) × HomesOf (now terms) (now homes) ⌝ }
     ensures { λ _. ⌜ take (64 * k) (now (rows .exit)) ≡ take (64 * k) (now (rows .entry)) ⌝ }
     ensures { λ _. ⌜ HasGrades (grading logic (termsOf (now (terms .entry)))) c (rowAt (now (rows .exit)) k) ⌝ }
 {
     let start = 64 * k;
     let end = start + 64;
-    fill_row(terms, logic, c, &mut rows[start..end]);
+    fill_row(terms, logic, c, &mut rows[start..end], homes);
 }
 
 // ---- the link of two rows
@@ -200,9 +231,10 @@ pub fn link_of(terms: &[u8], logic: Logic, role: u8, c: usize, d: usize) -> u8
     requires { ⌜ termCount (now terms) ≤ 64 ⌝ }
     ensures { λ r. ⌜ r ≡ link (grading logic (termsOf (now (terms .entry)))) role c d ⌝ }
 {
+    let homes = find_homes(terms);
     let mut first = [0u8; 64];
-    fill_row(terms, logic, c, &mut first);
+    fill_row(terms, logic, c, &mut first, &homes);
     let mut second = [0u8; 64];
-    fill_row(terms, logic, d, &mut second);
+    fill_row(terms, logic, d, &mut second, &homes);
     link_of_rows(terms, logic, role, &first, &second)
 }

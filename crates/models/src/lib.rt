@@ -18,6 +18,7 @@ use encoding::write_word;
 use grades::put_row;
 use grades::row_at;
 use gradings::Logic;
+use places::find_homes;
 use sheets::Shape;
 
 // ---- the marked candidates
@@ -64,9 +65,10 @@ fn fill_rows(terms: &[u8], logic: Logic, types: &[u16], rows: &mut [u8])
     requires { ⌜ (termCount (now terms) ≤ 64) × (length (now types) ≤ 64) × (4096 ≤ length (now rows)) ⌝ }
     ensures { λ _. ⌜ HoldsRows (grading logic (termsOf (now (terms .entry)))) (now (types .entry)) (length (now (types .entry))) (now (rows .exit)) ⌝ }
 {
+    let homes = find_homes(terms);
     let mut e = 0;
     while e < types.len() {
-        put_row(terms, logic, number(types[e]), rows, e);
+        put_row(terms, logic, number(types[e]), rows, e, &homes);
         e += 1;
     }
 }

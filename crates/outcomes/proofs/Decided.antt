@@ -18,7 +18,8 @@ use Rattle.placement.specs.Dictionary.{Finds}
 use Rattle.placement.proofs.Outcome.{placement-finds}
 use Rattle.placer.specs.Walk.{placed}
 use Rattle.placer.proofs.Walk.{placed-true, placed-false}
-use Rattle.outcomes.specs.Decided.{decision, placedIn, decisionIf, placedIf}
+use Rattle.outcomes.specs.Decided.{decision, placedIn}
+use Rattle.outcomes.specs.Either.{decisionIf, placedIf}
 use Rattle.outcomes.specs.declared.Decision.the-variants.{Decided}
 
 -- ---- the outcome

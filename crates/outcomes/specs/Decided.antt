@@ -1,6 +1,5 @@
 -- What deciding says of a book and what it sets, of the abstract book alone. Document 01, "Types and links".
 -- Assumes nothing.
-use mathlib.Core.Bool.{Bool, true, false}
 use mathlib.Core.Option.{Option, none, some}
 use mathlib.Core.List.{List, _++_, flatMap}
 use Prim.Native.Nat.{ℕ, _*_}
@@ -8,7 +7,7 @@ use lib.ListN.{length, drop}
 use Rattle.encoding.specs.Words.{wordBytes}
 use Rattle.semantics.specs.Books.{Book}
 use Rattle.elimination.specs.Survivors.{survivorsOf}
-use Rattle.placement.specs.Outcome.{placement, outcome}
+use Rattle.placement.specs.Outcome.{outcome}
 use Rattle.outcomes.specs.declared.Decision.{Decision}
 use Rattle.outcomes.specs.declared.Decision.the-variants.{Refused, Decided}
 
@@ -25,13 +24,3 @@ survivorsIn (Decided o k) = k
 abbrev pub placedIn : Option (List ℕ) → (buffer : List ℕ) → List ℕ
 placedIn none buffer = buffer
 placedIn (some p) buffer = flatMap wordBytes p ++ drop (2 * length p) buffer
-
--- ---- what code works out in one function: whether it decides or marks alone. These two stand in private contracts only
-
-abbrev pub decisionIf : Bool → Book → Decision
-decisionIf true B = decision B
-decisionIf false B = Decided 0 (length (survivorsOf B))
-
-abbrev pub placedIf : Bool → Book → (buffer : List ℕ) → List ℕ
-placedIf true B buffer = placedIn (placement B) buffer
-placedIf false B buffer = buffer

@@ -15,7 +15,8 @@ ghost use Rattle.placement.specs.Outcome.{placement as placementOf, outcome};
 ghost use Rattle.placer.specs.Walk.{placed};
 ghost use Rattle.marking.specs.Equipped.{Equipped};
 ghost use Rattle.marking.specs.Marking.{markedIn};
-ghost use Rattle.outcomes.specs.Decided.{decision, survivorsIn, placedIn, decisionIf, placedIf};
+ghost use Rattle.outcomes.specs.Decided.{decision, survivorsIn, placedIn};
+ghost use Rattle.outcomes.specs.Either.{decisionIf, placedIf};
 use gradings::Logic;
 use layout::Sections;
 

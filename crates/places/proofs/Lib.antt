@@ -1,1 +1,2 @@
+pub mod Homes
 pub mod Places

@@ -1,16 +1,19 @@
--- Laws of places: which kinds are places, and how many there are, one term more.
+-- Laws of places: which kinds are places, and how many terms open one, one term more.
 -- Assumes nothing.
 use mathlib.Core.Path.{_≡_, refl, sym, ap, subst, _∙_}
+use mathlib.Core.Bool.{Bool}
 use mathlib.Core.List.{List, []}
 use Prim.Native.Nat.{ℕ, _+_, _^_, _<_}
 use native.Mathlib.Numerals.{add-one}
-use Rattle.semantics.specs.Terms.{Term}
+use Rattle.chain.specs.Decisions.{Tells}
+use Rattle.chain.specs.Search.{rank}
+use Rattle.chain.proofs.Search.{rank-yes, rank-no}
+use Rattle.semantics.specs.Terms.{Term, term}
 use Rattle.semantics.specs.Interpretations.{graded}
-use Rattle.semantics.proofs.Interpretations.{graded-well-formed}
-use Rattle.types.specs.Candidates.{place, IsPlace, placesBefore, candidates}
-use Rattle.types.proofs.Candidates.{placesBefore-place, placesBefore-other, candidates-count}
-use Rattle.sections.specs.Terms.{termOf, kindAt, aAt, bAt, termCount, termAt, termsOf, TermsRight}
-use Rattle.sections.proofs.Terms.{by-kind, term-kind, length-terms, term-at, terms-ordered, terms-apart}
+use Rattle.types.specs.Candidates.{place, IsPlace, Opens, opens?, places, home, candidates}
+use Rattle.types.proofs.Candidates.{opens-home}
+use Rattle.sections.specs.Terms.{termOf, kindAt, aAt, bAt, termCount, termAt, termsOf}
+use Rattle.sections.proofs.Terms.{by-kind, term-kind, length-terms, term-at}
 
 -- ---- a term of the section by its kind
 
@@ -23,19 +26,37 @@ module _ (s : List ℕ) (i : ℕ) where
       by-kind (λ k t. ¬ (k ≡ 0) → ¬ (k ≡ 4) → ¬ (k ≡ 5) → ¬ IsPlace (place t)) (aAt s i) (bAt s i) (λ n _ _ _. n refl) (λ _ _ _ z. z)
       (λ _ _ _ z. z) (λ _ _ _ z. z) (λ _ n _ _. n refl) (λ _ _ n _. n refl) (λ _ _ _ z. z) (λ _ _ _ z. z) (λ _ _ _ _ _ z. z) (kindAt s i)
 
+  -- it opens a place where it is one and its own home
+  module _ (h : i < termCount s) where
+    pub opens-not : ¬ IsPlace (place (termAt s i)) → ¬ Opens (termsOf s) i
+    opens-not n o = n (subst (λ (t : Term). IsPlace (place t)) (term-at s i h) (opens-home (termsOf s) i (rw (length-terms s) h) .0 o .0))
+
+    pub opens-where : (b : Bool) → IsPlace (place (termAt s i)) → Tells b (home (termsOf s) i ≡ i) → Tells b (Opens (termsOf s) i)
+    opens-where b p t =
+        let u = opens-home (termsOf s) i (rw (length-terms s) h) in
+        (λ e. u .1 (subst (λ (x : Term). IsPlace (place x)) (sym (term-at s i h)) p, t .0 e), λ e o. t .1 e (u .0 o .1))
+
 -- ---- places, one term more
 
-module _ (s : List ℕ) where
-  module _ (i : ℕ) (h : i < termCount s) where
-    pub places-more : IsPlace (place (termAt s i)) → placesBefore (termsOf s) i + 1 ≡ placesBefore (termsOf s) (i + 1)
-    places-more p =
-        rw (add-one i, add-one) (sym (placesBefore-place (termsOf s) i (subst (λ (t : Term). IsPlace (place t)) (sym (term-at s i h)) p)))
+-- how many of the terms before number i open a place
+abbrev pub openBefore : List Term → ℕ → ℕ
+openBefore ts = rank (opens? ts)
 
-    pub places-same : ¬ IsPlace (place (termAt s i)) → placesBefore (termsOf s) i ≡ placesBefore (termsOf s) (i + 1)
-    places-same n =
-        rw (add-one i) (sym (placesBefore-other (termsOf s) i (λ p. n (subst (λ (t : Term). IsPlace (place t)) (term-at s i h) p))))
+module _ (ts : List Term) where
+  pub none-open : openBefore ts 0 ≡ 0
+  unfolding rank
+  none-open = refl
 
-  pub candidates-of : TermsRight s → (N : ℕ) → (N + 1) ^ placesBefore (termsOf s) (termCount s) ≡ candidates (graded N (termsOf s) [])
-  candidates-of ok N =
-      ap (λ (n : ℕ). (N + 1) ^ placesBefore (termsOf s) n) (sym (length-terms s))
-      ∙ sym (candidates-count (graded N (termsOf s) []) (graded-well-formed N (termsOf s) [] (terms-ordered s ok)) (terms-apart s ok))
+  pub open-more : (i : ℕ) → Opens ts i → openBefore ts i + 1 ≡ openBefore ts (i + 1)
+  open-more i o = rw (add-one i, add-one) (sym (rank-yes (opens? ts) i o))
+
+  pub open-same : (i : ℕ) → ¬ Opens ts i → openBefore ts i ≡ openBefore ts (i + 1)
+  open-same i n = rw (add-one i) (sym (rank-no (opens? ts) i n))
+
+pub all-open : (s : List ℕ) → openBefore (termsOf s) (termCount s) ≡ places (termsOf s)
+unfolding places
+all-open s = ap (openBefore (termsOf s)) (sym (length-terms s))
+
+pub candidates-power : (N : ℕ) (ts : List Term) → (N + 1) ^ places ts ≡ candidates (graded N ts [])
+unfolding candidates
+candidates-power N ts = refl

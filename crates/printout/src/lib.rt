@@ -6,6 +6,7 @@ ghost use Prim.Native.Nat.{ℕ, _+_, _*_, _<_, _≤_};
 ghost use lib.ListN.{length, getD};
 ghost use Rattle.chain.specs.Lists.{from, keep};
 ghost use Rattle.gradings.specs.Gradings.{grading};
+ghost use Rattle.places.specs.Homes.{HomesOf};
 ghost use Rattle.sections.specs.Terms.{termCount, termsOf, TermsRight};
 ghost use Rattle.grades.specs.Rows.{rowOf};
 ghost use Rattle.encoding.specs.Words.{wordAt};
@@ -133,8 +134,15 @@ fn put_type(out: &mut [u8], at: usize, c: usize, row: &[u8]) -> usize
 }
 
 // The line of candidate `c`.
-fn type_line(out: &mut [u8], at: usize, terms: &[u8], logic: Logic, c: usize) -> usize
-    requires { ⌜ TermsRight (now terms) ⌝ }
+fn type_line(
+    out: &mut [u8],
+    at: usize,
+    terms: &[u8],
+    logic: Logic,
+    c: usize,
+    homes: &[u8; 64],
+) -> usize
+    requires { ⌜ TermsRight (now terms) × HomesOf (now terms) (now homes) ⌝ }
     requires { ⌜ (termCount (now terms) ≤ 64) × (logic .steps < 10) ⌝ }
     requires { ⌜ at + 192 ≤ length (now out) ⌝ }
     ensures { λ r. ⌜ Added (now (out .entry)) at (typeLine c (rowOf (grading logic (termsOf (now (terms .entry)))) c)) (now (out .exit)) r ⌝ }
@@ -142,7 +150,7 @@ fn type_line(out: &mut [u8], at: usize, terms: &[u8], logic: Logic, c: usize) ->
 {
     let count = terms.len() / 3;
     let mut row = [0u8; 64];
-    grades::fill_row(terms, logic, c, &mut row);
+    grades::fill_row(terms, logic, c, &mut row, homes);
     put_type(out, at, c, &row[..count])
 }
 
@@ -154,15 +162,16 @@ fn put_marked(
     logic: Logic,
     marks: &[u8],
     c: usize,
+    homes: &[u8; 64],
 ) -> usize
-    requires { ⌜ TermsRight (now terms) ⌝ }
+    requires { ⌜ TermsRight (now terms) × HomesOf (now terms) (now homes) ⌝ }
     requires { ⌜ (termCount (now terms) ≤ 64) × (logic .steps < 10) ⌝ }
     requires { ⌜ (at + 192 ≤ length (now out)) × (c < length (now marks)) ⌝ }
     ensures { λ r. ⌜ Added (now (out .entry)) at (ite {C = List ℕ} (marked? (now (marks .entry)) c) (typeLine c (rowOf (grading logic (termsOf (now (terms .entry)))) c)) []) (now (out .exit)) r ⌝ }
     ensures { λ r. ⌜ r ≤ at + 192 ⌝ }
 {
     if marks[c] == 1 {
-        return type_line(out, at, terms, logic, c);
+        return type_line(out, at, terms, logic, c, homes);
     }
     at
 }
@@ -182,10 +191,11 @@ pub fn type_lines(
     ensures { λ r. ⌜ Added (now (out .entry)) 0 (typeLines (rowOf (grading logic (termsOf (now (terms .entry))))) (keep (marked? (now (marks .entry))) (from first count))) (now (out .exit)) r ⌝ }
     ensures { λ r. ⌜ r ≤ 192 * count ⌝ }
 {
+    let homes = places::find_homes(terms);
     let mut end = 0;
     let mut i = 0;
     while i < count {
-        end = put_marked(out, end, terms, logic, marks, first + i);
+        end = put_marked(out, end, terms, logic, marks, first + i, &homes);
         i += 1;
     }
     end

@@ -9,6 +9,7 @@ ghost use Rattle.encoding.specs.Bits.{Bit};
 ghost use Rattle.types.specs.Candidates.{gradeIn};
 ghost use Rattle.sections.specs.Terms.{termCount, termsOf, TermsRight};
 ghost use Rattle.gradings.specs.Gradings.{grading};
+ghost use Rattle.places.specs.Homes.{HomesOf};
 ghost use Rattle.elimination.specs.Marks.{Marked, marked};
 ghost use Rattle.subsumption.specs.Subsumption.{impliedTable};
 ghost use Rattle.subsumption.specs.Sets.{Gathered, Narrowed, setRow, setTable};
@@ -83,25 +84,32 @@ fn narrow(row: &[u8], steps: u8, sets: &mut [u64])
 // ---- the listed types
 
 // By the type of candidate `c`.
-fn narrow_by(terms: &[u8], logic: Logic, c: usize, sets: &mut [u64])
-    requires { ⌜ TermsRight (now terms) ⌝ }
+fn narrow_by(terms: &[u8], logic: Logic, c: usize, sets: &mut [u64], homes: &[u8; 64])
+    requires { ⌜ TermsRight (now terms) × HomesOf (now terms) (now homes) ⌝ }
     requires { ⌜ (termCount (now terms) ≤ 64) × (termCount (now terms) ≤ length (now sets)) ⌝ }
     ensures { λ _. ⌜ Narrowed (termCount (now (terms .entry))) (now (sets .entry)) (now (sets .exit)) (λ i j. gradeIn (grading logic (termsOf (now (terms .entry)))) c i ≤ gradeIn (grading logic (termsOf (now (terms .entry)))) c j) ⌝ }
 {
     let mut row = [0u8; 64];
-    grades::fill_row(terms, logic, c, &mut row);
+    grades::fill_row(terms, logic, c, &mut row, homes);
     let count = terms.len() / 3;
     narrow(&row[..count], logic.steps, sets);
 }
 
 // By the type of candidate `c`, if it is marked.
-fn narrow_marked(terms: &[u8], logic: Logic, marks: &[u8], c: usize, sets: &mut [u64])
-    requires { ⌜ TermsRight (now terms) ⌝ }
+fn narrow_marked(
+    terms: &[u8],
+    logic: Logic,
+    marks: &[u8],
+    c: usize,
+    sets: &mut [u64],
+    homes: &[u8; 64],
+)
+    requires { ⌜ TermsRight (now terms) × HomesOf (now terms) (now homes) ⌝ }
     requires { ⌜ (termCount (now terms) ≤ 64) × (termCount (now terms) ≤ length (now sets)) × (c < length (now marks)) ⌝ }
     ensures { λ _. ⌜ Narrowed (termCount (now (terms .entry))) (now (sets .entry)) (now (sets .exit)) (λ i j. Marked (now (marks .entry)) c → gradeIn (grading logic (termsOf (now (terms .entry)))) c i ≤ gradeIn (grading logic (termsOf (now (terms .entry)))) c j) ⌝ }
 {
     if marks[c] == 1 {
-        narrow_by(terms, logic, c, sets);
+        narrow_by(terms, logic, c, sets, homes);
     }
 }
 
@@ -111,9 +119,10 @@ fn narrow_all(terms: &[u8], logic: Logic, marks: &[u8], count: usize, sets: &mut
     requires { ⌜ (termCount (now terms) ≤ 64) × (termCount (now terms) ≤ length (now sets)) × (count ≤ length (now marks)) ⌝ }
     ensures { λ _. ⌜ Narrowed (termCount (now (terms .entry))) (now (sets .entry)) (now (sets .exit)) (λ i j. (d : ℕ) → d < count → Marked (now (marks .entry)) d → gradeIn (grading logic (termsOf (now (terms .entry)))) d i ≤ gradeIn (grading logic (termsOf (now (terms .entry)))) d j) ⌝ }
 {
+    let homes = places::find_homes(terms);
     let mut c = 0;
     while c < count {
-        narrow_marked(terms, logic, marks, c, sets);
+        narrow_marked(terms, logic, marks, c, sets, &homes);
         c += 1;
     }
 }

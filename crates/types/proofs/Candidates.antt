@@ -1,7 +1,7 @@
 -- Laws of places, candidates and types: a candidate's grades, that no two candidates share a type, and that each element has just one.
 -- Assumes nothing.
 use mathlib.Core.Path.{_≡_, refl, sym, ap, subst, _∙_}
-use mathlib.Core.Logic.{inl, inr, ⊎-elim, _↔_}
+use mathlib.Core.Logic.{_⊎_, inl, inr, ⊎-elim, _↔_}
 use mathlib.Core.List.{List}
 use Prim.Native.Nat.{ℕ, suc, _^_, _≤_, _<_}
 use native.Mathlib.Omega.{arith}
@@ -12,10 +12,22 @@ use Rattle.chain.proofs.Search.{strong, rank-yes, rank-no, rank-lt, rank-onto, 
 use Rattle.chain.proofs.Digits.{digit-lt, encode-lt, digit-encode, digits-inj}
 use Rattle.semantics.specs.Terms.{Term, name, not, and, or, some, all, top, bottom, term, Children, local, NamesApart}
 use Rattle.semantics.specs.Interpretations.{Grading, WellFormed, Interpretation, OnChain, gradeAt}
+use Rattle.semantics.specs.Books.{nameAbove}
 use Rattle.semantics.specs.Table.{Follows}
-use Rattle.types.specs.Candidates.{Place, named, quantifying, place, named?, bearer, OpensAs, Opens, opens?, places, homeAs, home, placeNumber, base, candidates, inCandidate, gradeIn, HasType, placeGrade, typeOf, IsPlace, isPlace?, placesBefore}
+use Rattle.types.specs.Candidates.{Place, named, quantifying, follows, place, named?, bearer, OpensAs, Opens, opens?, places, homeAs, home, placeNumber, base, candidates, inCandidate, gradeIn, HasType, placeGrade, typeOf, IsPlace, isPlace?, placesBefore}
 use Rattle.semantics.proofs.Terms.{value-local, value-unique}
 use Rattle.semantics.proofs.Interpretations.{gradeAt-local, gradeAt-le}
+
+-- a term is a name, or has none
+pub name-or-none : (t : Term) → ((a : ℕ) × (t ≡ name a)) ⊎ (nameAbove t ≡ 0)
+name-or-none (name a) = inl (a, refl)
+name-or-none (not c) = inr refl
+name-or-none (and c d) = inr refl
+name-or-none (or c d) = inr refl
+name-or-none (some r c) = inr refl
+name-or-none (all r c) = inr refl
+name-or-none top = inr refl
+name-or-none bottom = inr refl
 
 module _ (ts : List Term) where
   -- a name has a home, which is a term with that name; a quantified term is its own
@@ -27,6 +39,36 @@ module _ (ts : List Term) where
       go : (w : First (named? ts a) (length ts)) → let h : ℕ = ⊎-elim (λ u. u .0) (λ _. i) w in (h < length ts) × Opens ts h × (term ts h ≡ name a)
       go (inl w) = (w .1, subst (OpensAs ts (w .0)) (sym (ap place (w .2))) (w .3), w .2)
       go (inr f) = absurd (f i l e)
+
+  own-first : (i a : ℕ) → i < length ts → term ts i ≡ name a → (j : ℕ) → j < home ts i → ¬ (term ts j ≡ name a)
+  own-first i a l e = let h = home-name i a l e in subst (OpensAs ts (home ts i)) (ap place (h .2)) (h .1)
+
+  -- so it is the first term that has the name
+  pub home-first : (i a x : ℕ) → i < length ts → term ts i ≡ name a → term ts x ≡ name a → ((j : ℕ) → j < x → ¬ (term ts j ≡ name a)) → home ts i ≡ x
+  home-first i a x l e f n =
+      let m : ¬ (x < home ts i) = λ h. own-first i a l e x h f in
+      let k : ¬ (home ts i < x) = λ h. n (home ts i) h (home-name i a l e .2) in
+      omega arith
+
+  -- a term that is no name is its own home
+  pub home-other : (i : ℕ) → nameAbove (term ts i) ≡ 0 → home ts i ≡ i
+  unfolding home homeAs
+  home-other i = go (term ts i)
+    where
+      go : (t : Term) → nameAbove t ≡ 0 → homeAs ts i (place t) ≡ i
+      go (name a) e = absurd (omega arith)
+      go (not c) e = refl
+      go (and c d) e = refl
+      go (or c d) e = refl
+      go (some r c) e = refl
+      go (all r c) e = refl
+      go top e = refl
+      go bottom e = refl
+
+  pub home-no-later : (i : ℕ) → i < length ts → home ts i ≤ i
+  home-no-later i l =
+      ⊎-elim (λ w. let n : ¬ (i < home ts i) = λ h. own-first i (w .0) l (w .1) i h (w .1) in omega arith) (λ e. omega (arith, home-other i e))
+      (name-or-none (term ts i))
 
   pub home-quantifying : (i : ℕ) → place (term ts i) ≡ quantifying → (home ts i ≡ i) × Opens ts i
   unfolding home homeAs
@@ -53,6 +95,25 @@ module _ (ts : List Term) where
       go (all r c) e o = refl
       go top e o = absurd o
       go bottom e o = absurd o
+
+  -- what opens a place is a name or a quantified term that is its own home
+  pub opens-home : (i : ℕ) → i < length ts → Opens ts i ↔ (IsPlace (place (term ts i)) × (home ts i ≡ i))
+  opens-home i l = (λ o. (opens-is (place (term ts i)) o, home-opens i l o), λ h. go (term ts i) refl (h .0) (h .1))
+    where
+      opens-is : (p : Place) → OpensAs ts i p → IsPlace p
+      opens-is (named a) o = tt
+      opens-is quantifying o = tt
+      opens-is follows o = o
+
+      go : (t : Term) → term ts i ≡ t → IsPlace (place t) → home ts i ≡ i → OpensAs ts i (place t)
+      go (name a) e _ h = λ j m. own-first i a l e j (rw h m)
+      go (not c) e p h = p
+      go (and c d) e p h = p
+      go (or c d) e p h = p
+      go (some r c) e _ h = tt
+      go (all r c) e _ h = tt
+      go top e p h = p
+      go bottom e p h = p
 
   -- ---- the places, counted one term after the other
 
@@ -144,18 +205,22 @@ module _ (G : Grading) (w : WellFormed G) where
   unfolding candidates
   candidates-count apart = ap (λ (k : ℕ). base G ^ k) (places-count (G .terms) apart)
 
-  -- the grade of a name is that of its first bearer
+  -- a term has the grade of its home,
+  pub gradeIn-home : (c i : ℕ) → i < length (G .terms) → gradeIn G c i ≡ gradeIn G c (home (G .terms) i)
+  unfolding placeNumber
+  gradeIn-home c i l =
+      ⊎-elim (λ (a, e). let v = home-name (G .terms) i a l e in
+      gradeIn-local c i l (name a) e ∙ sym (gradeIn-opens c (home (G .terms) i) (v .0) (v .1)))
+      (λ e. ap (gradeIn G c) (sym (home-other (G .terms) i e))) (name-or-none (term (G .terms) i))
+
+  -- so that of a name is that of its first bearer
   pub gradeIn-name : (c i a : ℕ) → i < length (G .terms) → term (G .terms) i ≡ name a
       → gradeIn G c i ≡ ⊎-elim (λ u. gradeIn G c (u .0)) (λ _. 0) (bearer (G .terms) a)
-  unfolding placeNumber home homeAs
-  gradeIn-name c i a l e = go (bearer (G .terms) a) (ap (λ (t : Term). homeAs (G .terms) i (place t)) e)
+  gradeIn-name c i a l e = go (bearer (G .terms) a)
     where
-      go : (v : First (named? (G .terms) a) (length (G .terms))) → home (G .terms) i ≡ ⊎-elim (λ u. u .0) (λ _. i) v
-          → gradeIn G c i ≡ ⊎-elim (λ u. gradeIn G c (u .0)) (λ _. 0) v
-      go (inl u) h =
-          let v = home-name (G .terms) i a l e in
-          gradeIn-local c i l (name a) e ∙ sym (gradeIn-opens c (home (G .terms) i) (v .0) (v .1)) ∙ ap (gradeIn G c) h
-      go (inr f) h = absurd (f i l e)
+      go : (v : First (named? (G .terms) a) (length (G .terms))) → gradeIn G c i ≡ ⊎-elim (λ u. gradeIn G c (u .0)) (λ _. 0) v
+      go (inl u) = gradeIn-home c i l ∙ ap (gradeIn G c) (home-first (G .terms) i a (u .0) l e (u .2) (u .3))
+      go (inr f) = absurd (f i l e)
 
   -- no two candidates share a type
   pub gradeIn-inj : (c d : ℕ) → c < candidates G → d < candidates G → ((i : ℕ) → i < length (G .terms) → gradeIn G c i ≡ gradeIn G d i) → c ≡ d

@@ -1,13 +1,11 @@
 -- `counter::count_in` meets its contract.
 -- Assumes nothing.
-use mathlib.Core.List.{List}
-use mathlib.Core.Path.{sym, subst, _∙_}
-use Prim.Native.Nat.{ℕ}
+use mathlib.Core.Path.{sym, _∙_}
 use native.Mathlib.Omega.{arith}
 use borrow.Author.Needs.{needs}
 use Rattle.powers.proofs.Bounded.{exactly-bounded, more-bounded}
-use Rattle.sections.specs.Terms.{TermsRight}
-use Rattle.book.proofs.Opening.{right-ordered, right-steps}
+use Rattle.book.proofs.Reading.{right-terms, right-few}
+use Rattle.book.proofs.Opening.{right-ordered}
 use Rattle.counter.proofs.Counting.{counted-few, counted-many}
 use Rattle.counter.proofs.count_in.Statement.{statement}
 use Rattle.counter.proofs.count_in.Tie as tie
@@ -18,7 +16,7 @@ terms-in-requires c κs = right-ordered _ _ (c .before .pre)
 count-candidates-requires : tie.Need-count-candidates-requires
 count-candidates-requires c κs =
     let s = c .before .before in
-    (subst (λ (z : List ℕ). TermsRight z) (sym (c .terms-in .ensures)) (s .pre .terms-right), right-steps _ _ (s .pre))
+    rw (c .terms-in .ensures) (s .pre .terms-right, omega (arith, right-terms _ _ (s .pre), right-few _ _ (s .pre)))
 
 enum-known-n : tie.Need-enum-known-n
 enum-known-n c = search needs

@@ -28,7 +28,7 @@ mark-by-rules-requires : tie.Need-mark-by-rules-requires
 mark-by-rules-requires c κs =
     let f = c .before .before in
     let s = f .before .before .before .before .before .before .before .before .before .before .before .before in
-    λ i h. omega (arith, s .pre .0 .few-terms, s .pre .0 .rules-right i h, f .fill-row .kept)
+    λ i h. omega (arith, s .pre .0 .0 .few-terms, s .pre .0 .0 .rules-right i h, f .fill-row .kept)
 
 slice-write-marks : tie.Need-slice-write-marks
 slice-write-marks c = search needs
@@ -49,7 +49,7 @@ put-slot-row-requires : tie.Need-put-slot-row-requires
 put-slot-row-requires c κs =
     let f = c .before .before .before .before .before .before in
     let s = f .before .before .before .before .before .before .before .before .before .before .before .before in
-    let w = s .pre .0 in
+    let w = s .pre .0 .0 in
     let terms = termsOf (s .args .terms .now) in
     let below = slots-below terms (terms-ordered (s .args .terms .now) (w .terms-right)) (s .args .slots .now) (w .slots-are) in
     let k = f .fill-row .kept in
@@ -67,7 +67,7 @@ classify-requires c κs =
     let b = c .before .before .before .before .before .before .before in
     let p = b .before .before in
     let s = p .before .before .before .before .before .before .before .before .before .before .before .before .before .before .before .before .before .before .before in
-    let w = s .pre .0 in
+    let w = s .pre .0 .0 in
     let r = s .pre .1 .0 in
     let E = s .pre .1 .1 .0 in
     let k = p .put-slot-row .kept in (
@@ -104,7 +104,7 @@ returns c =
     let f = m .before .before .before in
     let s = f .before .before .before .before .before .before .before .before .before .before .before .before in
     let a = s .args in
-    let w = s .pre .0 in
+    let w = s .pre .0 .0 in
     let terms = termsOf (a .terms .now) in
     let G = grading (a .logic) terms in
     let ordered = terms-ordered (a .terms .now) (w .terms-right) in

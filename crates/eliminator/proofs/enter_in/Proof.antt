@@ -15,7 +15,7 @@ use Rattle.eliminator.proofs.enter_in.Statement.{statement}
 use Rattle.eliminator.proofs.enter_in.Tie as tie
 
 abbrev Inv-loop : tie.InvT-loop
-Inv-loop logic terms slots rules own₀ child₀ source₀ target₀ first₀ second₀ marks₀ count t₀ c₀ own child source target first second marks t c =
+Inv-loop logic terms slots rules own₀ child₀ source₀ target₀ first₀ second₀ marks₀ homes count t₀ c₀ own child source target first second marks t c =
     (c ≤ length marks₀)
     × ((length own ≡ length own₀) × (length child ≡ length child₀) × (length source ≡ length source₀) × (length target ≡ length target₀)
     × (length first ≡ length first₀) × (length second ≡ length second₀) × (length marks ≡ length marks₀))
@@ -23,11 +23,14 @@ Inv-loop logic terms slots rules own₀ child₀ source₀ target₀ first₀ se
     × Indexed first second t
 
 abbrev μ-loop : tie.MeasureT-loop
-μ-loop logic terms slots rules own₀ child₀ source₀ target₀ first₀ second₀ marks₀ count t₀ c₀ own child source target first second marks t c = length marks₀ - c
+μ-loop logic terms slots rules own₀ child₀ source₀ target₀ first₀ second₀ marks₀ homes count t₀ c₀ own child source target first second marks t c = length marks₀ - c
+
+find-homes-requires : tie.Need-find-homes-requires Inv-loop μ-loop
+find-homes-requires c κs = search needs
 
 loop-holds : tie.Need-loop-holds Inv-loop μ-loop
 loop-holds c =
-    let s = c .before .before .before .before .before .before .before .before .before .before in
+    let s = c .before .before .before .before .before .before .before .before .before .before .before in
     let a = s .args in
     let z = s .pre .1 .1 in (
       omega arith,
@@ -39,14 +42,14 @@ loop-holds c =
 
 enter-requires : tie.Need-enter-requires Inv-loop μ-loop
 enter-requires c κs =
-    let t = c .before .before .before .before .before .before .before in
+    let t = c .before .before .before .before .before .before .before .before in
     let l = t .before in
-    let s = l .before .before .before .before .before .before .before .before .before .before .before in
+    let s = l .before .before .before .before .before .before .before .before .before .before .before .before in
     let a = s .args in
     let i = l .loop .inv in
     let taken = t .loop-test .taken in
     let r = s .pre .1 .0 in (
-      subst (Task (a .logic) (a .terms .now) (a .slots .now) (a .rules .now)) (sym (i .1 .6)) (s .pre .0),
+      (subst (Task (a .logic) (a .terms .now) (a .slots .now) (a .rules .now)) (sym (i .1 .6)) (s .pre .0), l .before .find-homes .ensures),
       (
         (
           (omega (arith, i .1, r .0), omega (arith, i .1, r .0), omega (arith, i .1, r .0), omega (arith, i .1, r .0)),
@@ -60,7 +63,7 @@ enter-requires c κs =
 
 add-c : tie.Need-add-c Inv-loop μ-loop
 add-c c =
-    let t = c .before .before .before .before .before .before .before .before .before .before .before .before .before .before .before .before .before .before .before .before .before .before in
+    let t = c .before .before .before .before .before .before .before .before .before .before .before .before .before .before .before .before .before .before .before .before .before .before .before in
     let l = t .before in
     omega (arith, t .loop-test .taken, l .loop .inv .0)
 
@@ -70,7 +73,7 @@ loop-less c = search needs
 loop-again : tie.Need-loop-again Inv-loop μ-loop
 loop-again c =
     let e = c .before .before .before .before .before .before .before .before .before .before .before .before .before .before in
-    let t = e .before .before .before .before .before .before .before .before in
+    let t = e .before .before .before .before .before .before .before .before .before in
     let l = t .before in
     let v = e .enter in
     let i = l .loop .inv .1 in
@@ -106,7 +109,7 @@ same-length-7 c = search needs
 returns : tie.Need-returns Inv-loop μ-loop
 returns c =
     let l = c .before in
-    let s = l .before .before .before .before .before .before .before .before .before .before .before in
+    let s = l .before .before .before .before .before .before .before .before .before .before .before .before in
     let a = s .args in
     let v = l .loop in
     let e : v .c ≡ length (a .marks .now) = omega arith in
@@ -118,6 +121,7 @@ enter-in-spec =
     (tie.spec
     Inv-loop
     μ-loop
+    find-homes-requires
     loop-holds
     enter-requires
     add-c

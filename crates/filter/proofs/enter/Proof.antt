@@ -26,7 +26,7 @@ put-row-requires c κs =
     let r = c .before .before .before in
     let s = r .before .before .before .before .before .before .before .before .before in
     let k = r .fill-row .kept in
-    (omega (arith, s .pre .1 .0 .few), slots-within (s .pre .0) _ (omega (arith, s .pre .0 .few-terms)), omega (arith, s .pre .1 .1))
+    (omega (arith, s .pre .1 .0 .few), slots-within (s .pre .0 .0) _ (omega (arith, s .pre .0 .0 .few-terms)), omega (arith, s .pre .1 .1))
 
 mul-allow-row : tie.Need-mul-allow-row
 mul-allow-row c = search needs
@@ -46,7 +46,7 @@ allow-row-requires c κs =
     let rows = p .put-row .last .1 .1 .0 in
     let room : 32 * s .args .c + 32 ≤ length rows = omega (arith, p .put-row .kept .1 .1 .0, s .pre .1 .1) in
     let long = length-rowAt rows (s .args .c) room in (
-      claims-within (s .pre .0) _ (omega (arith, s .pre .0 .few-terms)),
+      claims-within (s .pre .0 .0) _ (omega (arith, s .pre .0 .0 .few-terms)),
       (s .pre .1 .0, (s .pre .1 .1 .0, rw (c .before .row-at .ensures) (omega (arith, long, s .pre .1 .0 .few)), s .pre .1 .1 .1, s .pre .1 .1 .3)),
     )
 
@@ -65,7 +65,7 @@ returns c =
     let G = grading (a .logic) (termsOf (a .terms .now)) in
     let full = r .fill-row .last .1 .1 .1 .0 in
     let are = filled-grades G (a .c) full _ (r .fill-row .ensures) in
-    entered-by (s .pre .0) full are (p .put-row .ensures .0) (p .put-row .ensures .1) (c .before .before .before .before .row-at .ensures)
+    entered-by (s .pre .0 .0) full are (p .put-row .ensures .0) (p .put-row .ensures .1) (c .before .before .before .before .row-at .ensures)
     (c .before .before .allow-row .ensures)
 
 pub enter-spec : {M : Type 1} → statement M

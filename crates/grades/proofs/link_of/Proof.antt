@@ -9,6 +9,9 @@ use Rattle.grades.proofs.Rows.{front-grades, rows-between}
 use Rattle.grades.proofs.link_of.Statement.{statement}
 use Rattle.grades.proofs.link_of.Tie as tie
 
+find-homes-requires : tie.Need-find-homes-requires
+find-homes-requires c κs = search needs
+
 slice-aggregate-fill-row : tie.Need-slice-aggregate-fill-row
 slice-aggregate-fill-row c = search needs
 
@@ -32,9 +35,9 @@ link-of-rows-requires c κs = search needs
 
 returns : tie.Need-returns
 returns c =
-    let s = c .before .before .before .before .before .before .before .before .before .before in
+    let s = c .before .before .before .before .before .before .before .before .before .before .before .before .before in
     let G = grading (s .args .logic) (termsOf (s .args .terms .now)) in
-    let f = c .before .before .before .before .before .before .before .fill-row in
+    let f = c .before .before .before .before .before .before .before .before .fill-row in
     let g = c .before .before .before .before .fill-row2 in
     c .link-of-rows .ensures
     ∙ rows-between (s .args .logic) (termsOf (s .args .terms .now)) (terms-ordered (s .args .terms .now) (s .pre .0)) (s .args .role) (s .args .c) (s .args .d) (f .last .1 .1 .1 .0) (g .last .1 .1 .1 .0)
@@ -44,6 +47,7 @@ pub link-of-spec : {M : Type 1} → statement M
 link-of-spec =
     tie.close
     (tie.spec
+    find-homes-requires
     slice-aggregate-fill-row
     fill-row-requires
     slice-aggregate-fill-row-2

@@ -29,7 +29,9 @@ part-fill-row-end : tie.Need-part-fill-row-end
 part-fill-row-end c = search needs
 
 fill-row-requires : tie.Need-fill-row-requires
-fill-row-requires c κs = search needs
+fill-row-requires c κs =
+    let s = c .before .before .before in
+    (s .pre .0, (s .pre .1 .0, search needs, s .pre .1 .2))
 
 same-length : tie.Need-same-length
 same-length c = search needs

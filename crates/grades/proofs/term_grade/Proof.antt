@@ -1,13 +1,15 @@
 -- `grades::term_grade` meets its contract. Where the kind is known, so are the range of the children and the table's grade.
 -- Assumes nothing.
-use mathlib.Core.Path.{_≡_}
-use Prim.Native.Nat.{ℕ}
+use mathlib.Core.Path.{_≡_, _∙_}
+use mathlib.Core.Logic.{_⊎_, inl, inr, ⊎-elim}
+use Prim.Native.Nat.{ℕ, _+_, _≤_, _<_}
 use native.Mathlib.Omega.{arith}
 use lib.ListN.{length}
 use borrow.Author.Needs.{needs}
-use Rattle.sections.specs.Terms.{Described, kindAt, aAt, bAt}
+use Rattle.sections.specs.Terms.{Described, kindAt, aAt, bAt, termsOf}
 use Rattle.sections.proofs.Terms.{range-kind}
-use Rattle.grades.proofs.OneTerm.{grade-kind, grade-place}
+use Rattle.grades.proofs.OneTerm.{grade-kind, grade-place, rest-kind, rest-place}
+use Rattle.grades.specs.OneTerm.{restAfter}
 use Rattle.grades.proofs.term_grade.Statement.{statement}
 use Rattle.grades.proofs.term_grade.Tie as tie
 
@@ -18,6 +20,13 @@ module _ (c : tie.Start) where
 
   range : (k : ℕ) → kindAt (c .args .terms .now) number ≡ k → Described number k (aAt (c .args .terms .now) number) (bAt (c .args .terms .now) number)
   range = range-kind (c .args .terms .now) number (c .pre .0) (c .pre .1 .0)
+
+  -- a term of a kind that has no place leaves all digits
+  left : (k : ℕ) → kindAt (c .args .terms .now) number ≡ k → ((1 ≤ k) × (k < 4)) ⊎ (5 < k)
+      → c .args .rest ≡ restAfter (c .args .logic .steps + 1) (termsOf (c .args .terms .now)) number (c .args .rest)
+  left k e n =
+      rest-kind _ _ (c .args .terms .now) (c .args .earlier .now) (c .pre .1 .0) k e (λ z. ⊎-elim (λ l. omega (arith, l, z)) (λ l. omega arith) n)
+      (λ z. ⊎-elim (λ l. omega (arith, l, z)) (λ l. omega arith) n) (λ z. ⊎-elim (λ l. omega (arith, l, z)) (λ l. omega arith) n)
 
 mul-kind : tie.Need-mul-kind
 mul-kind c = search needs
@@ -67,25 +76,38 @@ disjunction-requires c κs =
     let s = c .before .before .before .before .before .before in
     omega (arith, c .before .child-grade4 .ensures, s .pre .1 .1 (aAt (s .args .terms .now) (number s)))
 
+place-grade-requires : tie.Need-place-grade-requires
+place-grade-requires c κs = search needs
+
 returns : tie.Need-returns
-returns c = rw (c .negation .ensures, c .before .child-grade .ensures) (grade-kind _ _ _ _ 1 (c .before .before .match .keys1))
+returns c =
+    let s = c .before .before .before .before .before .before in
+    (rw (c .negation .ensures, c .before .child-grade .ensures) (grade-kind _ _ _ _ _ 1 (c .before .before .match .keys1)), left s 1 (c .before .before .match .keys1) (inl (omega arith, omega arith)))
 
 returns-2 : tie.Need-returns-2
-returns-2 c = rw (c .conjunction .ensures, c .before .child-grade3 .ensures, c .before .before .child-grade2 .ensures) (grade-kind _ _ _ _ 2 (c .before .before .before .match .keys2))
+returns-2 c =
+    let s = c .before .before .before .before .before .before .before in
+    (rw (c .conjunction .ensures, c .before .child-grade3 .ensures, c .before .before .child-grade2 .ensures) (grade-kind _ _ _ _ _ 2 (c .before .before .before .match .keys2)), left s 2 (c .before .before .before .match .keys2) (inl (omega arith, omega arith)))
 
 returns-3 : tie.Need-returns-3
-returns-3 c = rw (c .disjunction .ensures, c .before .child-grade5 .ensures, c .before .before .child-grade4 .ensures) (grade-kind _ _ _ _ 3 (c .before .before .before .match .keys3))
+returns-3 c =
+    let s = c .before .before .before .before .before .before .before in
+    (rw (c .disjunction .ensures, c .before .child-grade5 .ensures, c .before .before .child-grade4 .ensures) (grade-kind _ _ _ _ _ 3 (c .before .before .before .match .keys3)), left s 3 (c .before .before .before .match .keys3) (inl (omega arith, omega arith)))
 
 returns-4 : tie.Need-returns-4
-returns-4 c = grade-kind _ _ _ _ 6 (c .match .keys4)
+returns-4 c = (grade-kind _ _ _ _ _ 6 (c .match .keys4), left (c .before .before .before .before) 6 (c .match .keys4) (inr (omega arith)))
 
 returns-5 : tie.Need-returns-5
-returns-5 c = grade-kind _ _ _ _ 7 (c .match .keys5)
+returns-5 c = (grade-kind _ _ _ _ _ 7 (c .match .keys5), left (c .before .before .before .before) 7 (c .match .keys5) (inr (omega arith)))
 
 returns-6 : tie.Need-returns-6
 returns-6 c =
-    grade-place _ _ _ _ (c .before .before .before .before .pre .0) (c .before .before .before .before .pre .1 .0) (c .match .rest .0 .0 .0 .0 .1) (c .match .rest .0 .0 .0 .1)
-    (c .match .rest .0 .0 .1) (c .match .rest .0 .1) (c .match .rest .1)
+    let s = c .before .before .before .before .before in
+    let n = c .before .match .rest in (
+      c .place-grade .ensures .0 ∙ grade-place _ _ _ _ _ (s .pre .0) (s .pre .1 .0) (n .0 .0 .0 .0 .1) (n .0 .0 .0 .1) (n .0 .0 .1) (n .0 .1) (n .1),
+      c .place-grade .ensures .1
+          ∙ rest-place _ _ _ _ (s .pre .1 .0) _ (s .pre .0) (s .pre .1 .2) (n .0 .0 .0 .0 .1) (n .0 .0 .0 .1) (n .0 .0 .1) (n .0 .1) (n .1),
+    )
 
 pub term-grade-spec : {M : Type 1} → statement M
 term-grade-spec =
@@ -105,6 +127,7 @@ term-grade-spec =
     child-grade-requires-4
     child-grade-requires-5
     disjunction-requires
+    place-grade-requires
     returns
     returns-2
     returns-3

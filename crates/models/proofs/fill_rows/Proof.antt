@@ -15,10 +15,13 @@ use Rattle.models.proofs.fill_rows.Statement.{statement}
 use Rattle.models.proofs.fill_rows.Tie as tie
 
 abbrev Inv-loop : tie.InvT-loop
-Inv-loop terms logic types rows₀ e₀ rows e = (e ≤ length types) × (length rows ≡ length rows₀) × HoldsRows (grading logic (termsOf terms)) types e rows
+Inv-loop terms logic types rows₀ homes e₀ rows e = (e ≤ length types) × (length rows ≡ length rows₀) × HoldsRows (grading logic (termsOf terms)) types e rows
 
 abbrev μ-loop : tie.MeasureT-loop
-μ-loop terms logic types rows₀ e₀ rows e = length types - e
+μ-loop terms logic types rows₀ homes e₀ rows e = length types - e
+
+find-homes-requires : tie.Need-find-homes-requires Inv-loop μ-loop
+find-homes-requires c κs = search needs
 
 loop-holds : tie.Need-loop-holds Inv-loop μ-loop
 loop-holds c = (omega arith, omega arith, below-none _)
@@ -34,8 +37,8 @@ number-requires c κs = search needs
 
 put-row-requires : tie.Need-put-row-requires Inv-loop μ-loop
 put-row-requires c κs =
-    let s = c .before .before .before .before .before .before .before .before in
-    (s .pre .0, (s .pre .1 .0, omega (arith, c .before .before .before .loop-test .taken, c .before .before .before .before .loop .inv .1, s .pre .1)))
+    let s = c .before .before .before .before .before .before .before .before .before .before in
+    (s .pre .0, (s .pre .1 .0, omega (arith, c .before .before .before .before .loop-test .taken, c .before .before .before .before .before .loop .inv .1, s .pre .1), c .before .before .before .before .before .before .find-homes .ensures))
 
 add-e : tie.Need-add-e Inv-loop μ-loop
 add-e c = search needs
@@ -45,15 +48,15 @@ loop-less c = search needs
 
 loop-again : tie.Need-loop-again Inv-loop μ-loop
 loop-again c =
-    let a = c .before .before .before .before .before .before .before .before .before .before .before .args in
-    let t = c .before .before .before .before .before .before .before .loop in
+    let a = c .before .before .before .before .before .before .before .before .before .before .before .before .before .args in
+    let t = c .before .before .before .before .before .before .before .before .loop in
     let f = c .before .before .put-row in
     let G = grading (a .logic) (termsOf (a .terms .now)) in
     let rows = f .last .1 .1 .1 .0 in (
       omega arith,
       f .kept .1 .1 .1 .0 ∙ t .inv .1,
       each-row-more (λ e. HasGrades G (getD (a .types .now) e 0)) (t .e) (t .rows) rows (f .ensures .0) (t .inv .2)
-          (subst (λ (x : ℕ). HasGrades G x (rowAt rows (t .e))) (c .before .before .before .before .number .ensures) (f .ensures .1)),
+          (subst (λ (x : ℕ). HasGrades G x (rowAt rows (t .e))) (c .before .before .before .before .before .number .ensures) (f .ensures .1)),
     )
 
 same-length : tie.Need-same-length Inv-loop μ-loop
@@ -68,6 +71,7 @@ fill-rows-spec =
     (tie.spec
     Inv-loop
     μ-loop
+    find-homes-requires
     loop-holds
     mul-number
     shared-slice-read-number

@@ -1,28 +1,31 @@
--- `places::count_places` meets its contract. `found` is the number of places before term `i`.
+-- `places::count_places` meets its contract. `found` of the terms before `i` open a place.
 -- Assumes nothing.
 use mathlib.Core.Logic.{⊎-elim}
 use mathlib.Core.Path.{_≡_, sym, ap, _∙_}
 use Prim.Native.Nat.{ℕ, _≤_, _+_, _-_}
 use native.Mathlib.Omega.{arith}
 use borrow.Author.Needs.{needs}
-use Rattle.types.specs.Candidates.{placesBefore}
-use Rattle.types.proofs.Candidates.{placesBefore-zero}
 use Rattle.sections.specs.Terms.{termCount, termsOf}
-use Rattle.places.proofs.Places.{places-more, places-same}
+use Rattle.places.proofs.Places.{openBefore, none-open, open-more, open-same, all-open}
 use Rattle.places.proofs.count_places.Statement.{statement}
 use Rattle.places.proofs.count_places.Tie as tie
 
 abbrev Inv-loop : tie.InvT-loop
-Inv-loop s count found₀ i₀ found i = (i ≤ termCount s) × (found ≡ placesBefore (termsOf s) i) × (found ≤ i)
+Inv-loop terms homes count found₀ i₀ found i = (i ≤ termCount terms) × (found ≡ openBefore (termsOf terms) i) × (found ≤ i)
 
 abbrev μ-loop : tie.MeasureT-loop
-μ-loop s count found₀ i₀ found i = termCount s - i
+μ-loop terms homes count found₀ i₀ found i = termCount terms - i
 
 loop-holds : tie.Need-loop-holds Inv-loop μ-loop
-loop-holds c = (omega arith, sym (placesBefore-zero _), omega arith)
+loop-holds c = (omega arith, sym (none-open (termsOf (c .before .before .args .terms .now))), omega arith)
 
-is-place-requires : tie.Need-is-place-requires Inv-loop μ-loop
-is-place-requires c κs = search needs
+shared-slice-read-opens : tie.Need-shared-slice-read-opens Inv-loop μ-loop
+shared-slice-read-opens c = omega (arith, c .before .before .before .before .before .pre .1)
+
+opens-requires : tie.Need-opens-requires Inv-loop μ-loop
+opens-requires c κs =
+    let l = c .before .before .loop in
+    (omega arith, c .before .before .before .before .before .pre .0 (l .i) (omega arith))
 
 add-found : tie.Need-add-found Inv-loop μ-loop
 add-found c = search needs
@@ -35,17 +38,19 @@ loop-less c = search needs
 
 loop-again : tie.Need-loop-again Inv-loop μ-loop
 loop-again c =
-    let s = c .before .before .before .before .before .args .s .now in
-    let l = c .before .before .before .loop in
-    let told = c .before .is-place .ensures in
+    let s = c .before .before .before .before .before .before .before .args .terms .now in
+    let l = c .before .before .before .before .loop in
+    let told = c .before .opens .ensures in
     ⊎-elim
-    (λ w. (omega arith, w .1 ∙ ap (λ (n : ℕ). n + 1) (l .inv .1) ∙ places-more s (l .i) (omega arith) (told .0 (w .0 .taken)), omega arith))
-    (λ w. (omega arith, w .1 ∙ l .inv .1 ∙ places-same s (l .i) (omega arith) (told .1 (w .0 .left)), omega arith))
+    (λ w. (omega arith, w .1 ∙ ap (λ (n : ℕ). n + 1) (l .inv .1) ∙ open-more (termsOf s) (l .i) (told .0 (w .0 .taken)), omega arith))
+    (λ w. (omega arith, w .1 ∙ l .inv .1 ∙ open-same (termsOf s) (l .i) (told .1 (w .0 .left)), omega arith))
     (c .if1 .came)
 
 returns : tie.Need-returns Inv-loop μ-loop
-returns c = c .before .loop .inv .1 ∙ ap (placesBefore (termsOf (c .before .before .before .args .s .now))) (omega arith)
+returns c =
+    let s = c .before .before .before .before .args .terms .now in
+    c .before .loop .inv .1 ∙ ap (openBefore (termsOf s)) (omega arith) ∙ all-open s
 
 pub count-places-spec : {M : Type 1} → statement M
 count-places-spec =
-    tie.close (tie.spec Inv-loop μ-loop loop-holds is-place-requires add-found add-i loop-less loop-again returns)
+    tie.close (tie.spec Inv-loop μ-loop loop-holds shared-slice-read-opens opens-requires add-found add-i loop-less loop-again returns)

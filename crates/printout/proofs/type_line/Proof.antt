@@ -28,7 +28,7 @@ put-type-requires c κs =
     let s = c .before .before .before .before .before .before .before in
     let terms = s .args .terms .now in
     rw (row-front (s .args .logic) terms (s .args .c) _ _ (c .before .before .before .fill-row .ensures))
-    ((row-digits (s .args .logic) terms (s .args .c) (s .pre .0) (omega arith), omega (arith, row-length (s .args .logic) terms (s .args .c))), omega arith)
+    ((row-digits (s .args .logic) terms (s .args .c) (s .pre .0 .0) (omega arith), omega (arith, row-length (s .args .logic) terms (s .args .c))), omega arith)
 
 same-length : tie.Need-same-length
 same-length c = search needs

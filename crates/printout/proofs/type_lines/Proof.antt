@@ -23,23 +23,29 @@ abbrev rows : (terms : List ℕ) (logic : Logic) → ℕ → List ℕ
 rows terms logic = rowOf (grading logic (termsOf terms))
 
 abbrev Inv-loop : tie.InvT-loop
-Inv-loop out₀ terms logic marks first count end₀ i₀ out end i =
+Inv-loop out₀ terms logic marks first count homes end₀ i₀ out end i =
     (i ≤ count) × (length out ≡ length out₀) × (end ≤ 192 * i)
     × Added out₀ 0 (flatMap (lineIf (rows terms logic) (marked? marks)) (from first i)) out end
 
 abbrev μ-loop : tie.MeasureT-loop
-μ-loop out₀ terms steps marks first count end₀ i₀ out end i = count - i
+μ-loop out₀ terms steps marks first count homes end₀ i₀ out end i = count - i
+
+find-homes-requires : tie.Need-find-homes-requires Inv-loop μ-loop
+find-homes-requires c κs = search needs
 
 loop-holds : tie.Need-loop-holds Inv-loop μ-loop
 loop-holds c =
-    let s = c .before .before .before in
+    let s = c .before .before .before .before in
     (omega arith, refl, omega arith, added-same (types-none (rows (s .args .terms .now) (s .args .logic)) (marked? (s .args .marks .now)) (s .args .first)) (added-none _ _))
 
 add-put-marked : tie.Need-add-put-marked Inv-loop μ-loop
 add-put-marked c = search needs
 
 put-marked-requires : tie.Need-put-marked-requires Inv-loop μ-loop
-put-marked-requires c κs = search needs
+put-marked-requires c κs =
+    let t = c .before .before .before in
+    let s = c .before .before .before .before .before .before .before .before in
+    ((s .pre .0, t .before .find-homes .ensures), (s .pre .1 .0, (omega arith, omega arith)))
 
 add-i : tie.Need-add-i Inv-loop μ-loop
 add-i c = search needs
@@ -49,8 +55,8 @@ loop-less c = search needs
 
 loop-again : tie.Need-loop-again Inv-loop μ-loop
 loop-again c =
-    let s = c .before .before .before .before .before .before .before .before .before in
-    let loop = c .before .before .before .before .before .loop in
+    let s = c .before .before .before .before .before .before .before .before .before .before .before in
+    let loop = c .before .before .before .before .before .before .loop in
     let put-marked = c .before .before .put-marked in (
       omega arith,
       put-marked .kept .0 ∙ loop .inv .1,
@@ -63,7 +69,7 @@ same-length c = search needs
 
 returns : tie.Need-returns Inv-loop μ-loop
 returns c =
-    let s = c .before .before .before .before .before in
+    let s = c .before .before .before .before .before .before in
     let loop = c .before .loop in
     let e : loop .i ≡ s .args .count = omega arith in
     (added-same (rw e (types-all (rows (s .args .terms .now) (s .args .logic)) (marked? (s .args .marks .now)) (s .args .first) (s .args .count))) (loop .inv .3), omega arith)
@@ -74,6 +80,7 @@ type-lines-spec =
     (tie.spec
     Inv-loop
     μ-loop
+    find-homes-requires
     loop-holds
     add-put-marked
     put-marked-requires

@@ -15,38 +15,41 @@ use Rattle.subsumption.proofs.narrow_all.Statement.{statement}
 use Rattle.subsumption.proofs.narrow_all.Tie as tie
 
 abbrev Inv-loop : tie.InvT-loop
-Inv-loop terms logic marks count sets₀ c₀ sets c =
+Inv-loop terms logic marks count sets₀ homes c₀ sets c =
     (c ≤ count) × (length sets ≡ length sets₀) × Narrowed (termCount terms) sets₀ sets (λ i j.
     (d : ℕ) → d < c → Marked marks d → gradeIn (grading logic (termsOf terms)) d i ≤ gradeIn (grading logic (termsOf terms)) d j)
 
 abbrev μ-loop : tie.MeasureT-loop
-μ-loop terms logic marks count sets₀ c₀ sets c = count - c
+μ-loop terms logic marks count sets₀ homes c₀ sets c = count - c
+
+find-homes-requires : tie.Need-find-homes-requires Inv-loop μ-loop
+find-homes-requires c κs = search needs
 
 loop-holds : tie.Need-loop-holds Inv-loop μ-loop
 loop-holds c =
-    let s = c .before .before .before in
+    let s = c .before .before .before .before in
     (omega arith, omega arith, narrowed-not (termCount (s .args .terms .now)) (s .args .sets .now) (s .args .sets .now) _ (λ i j h l d k. absurd (omega arith)) refl)
 
 narrow-marked-requires : tie.Need-narrow-marked-requires Inv-loop μ-loop
 narrow-marked-requires c κs =
-    let t = c .before .before .loop in
-    let s = c .before .before .before .before .before .before in
-    (s .pre .0, (s .pre .1 .0, omega (arith, t .inv .1, s .pre .1 .1), omega (arith, c .before .loop-test .taken, s .pre .1 .2)))
+    let t = c .before .before .before .loop in
+    let s = c .before .before .before .before .before .before .before .before in
+    ((s .pre .0, c .before .before .before .before .find-homes .ensures), (s .pre .1 .0, omega (arith, t .inv .1, s .pre .1 .1), omega (arith, c .before .before .loop-test .taken, s .pre .1 .2)))
 
 add-c : tie.Need-add-c Inv-loop μ-loop
 add-c c =
-    let l = c .before .before .before .before .loop-test .taken in
+    let l = c .before .before .before .before .before .loop-test .taken in
     search needs
 
 loop-less : tie.Need-loop-less Inv-loop μ-loop
-loop-less c = omega (arith, c .before .before .before .before .loop-test .taken)
+loop-less c = omega (arith, c .before .before .before .before .before .loop-test .taken)
 
 loop-again : tie.Need-loop-again Inv-loop μ-loop
 loop-again c =
-    let t = c .before .before .before .before .before .loop in
-    let s = c .before .before .before .before .before .before .before .before .before in
+    let t = c .before .before .before .before .before .before .loop in
+    let s = c .before .before .before .before .before .before .before .before .before .before .before in
     let one = c .before .before .narrow-marked in (
-      omega (arith, c .before .before .before .before .loop-test .taken),
+      omega (arith, c .before .before .before .before .before .loop-test .taken),
       omega (arith, one .kept, t .inv .1),
       narrowed-then (termCount (s .args .terms .now)) (s .args .sets .now) (t .sets) _ (one .last .1 .1 .1 .1 .0) _ _ (λ i j h l.
           below-next (λ d. Marked (s .args .marks .now) d → gradeIn (grading (s .args .logic) (termsOf (s .args .terms .now))) d i
@@ -60,7 +63,7 @@ same-length c = c .before .loop .inv .1
 returns : tie.Need-returns Inv-loop μ-loop
 returns c =
     let t = c .before .loop in
-    let s = c .before .before .before .before .before in
+    let s = c .before .before .before .before .before .before in
     let e : t .c ≡ s .args .count = omega (arith, t .inv .0, c .loop-test .left) in
     rw e at (t .inv .2)
 
@@ -70,6 +73,7 @@ narrow-all-spec =
     (tie.spec
     Inv-loop
     μ-loop
+    find-homes-requires
     loop-holds
     narrow-marked-requires
     add-c

@@ -28,7 +28,7 @@ narrow-requires c κs =
     rw (row-front (s .args .logic) terms (s .args .c) _ _ (c .before .before .before .fill-row .ensures)) (
       omega (arith, row-length (s .args .logic) terms (s .args .c), s .pre .1 .0),
       omega (arith, row-length (s .args .logic) terms (s .args .c), s .pre .1 .1),
-      row-at-most (s .args .logic) terms (s .args .c) (s .pre .0),
+      row-at-most (s .args .logic) terms (s .args .c) (s .pre .0 .0),
     )
 
 same-length : tie.Need-same-length
