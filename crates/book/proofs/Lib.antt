@@ -4,3 +4,4 @@ pub mod Pairs
 pub mod Writing
 pub mod Claims
 pub mod Sets
+pub mod Repeats

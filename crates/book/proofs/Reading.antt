@@ -2,19 +2,18 @@
 -- Assumes nothing.
 use mathlib.Core.Path.{_≡_, refl, sym, ap, _∙_}
 use mathlib.Core.List.{List, []}
-use Prim.Native.Nat.{ℕ, _-_, _/_, _≤_, max}
+use Prim.Native.Nat.{ℕ, _*_, _-_, _/_, _≤_, max}
 use native.Mathlib.Nat.{add-sub-cancel-left}
 use native.Mathlib.Omega.{arith}
 use lib.ListN.{length}
 use Rattle.chain.specs.Lists.{highest}
 use Rattle.encoding.proofs.Stretches.{length-stretch}
 use Rattle.semantics.specs.Books.{Book, Valid, nameAbove, roleAbove, linkRoles, pairRoles, membershipIndividuals, linkIndividuals, nameCount, roleCount, individuals, RuleInRange, TermInRange}
-use Rattle.semantics.specs.Terms.{NamesApart}
 use Rattle.semantics.proofs.Interpretations.{graded-well-formed}
 use Rattle.sections.specs.Terms.{termCount, termsOf}
 use Rattle.claims.specs.Pairs.{pairsOf}
 use Rattle.claims.specs.Claims.{membershipsOf, linksOf}
-use Rattle.sections.proofs.Terms.{length-terms, terms-ordered, terms-apart, names-few, roles-few}
+use Rattle.sections.proofs.Terms.{length-terms, terms-ordered, names-few, roles-few}
 use Rattle.claims.proofs.Rules.{rules-each}
 use Rattle.claims.proofs.Pairs.{pairs-range, pairRoles-few}
 use Rattle.claims.proofs.Claims.{memberships-each, individuals-few, linkRoles-few}
@@ -34,6 +33,10 @@ sections-short : (b : List ℕ) → CountsRight b → sectionsOf b .rules - sect
 unfolding sectionsOf
 sections-short b h = omega arith
 
+sections-whole : (b : List ℕ) → sectionsOf b .rules - sectionsOf b .terms ≡ 3 * termsIn (sectionsOf b)
+unfolding sectionsOf
+sections-whole b = omega arith
+
 module _ (b : List ℕ) (s : Sections) (ok : Right b s) where
   -- the sections' stretches are the book's
   pub right-book : bookAt b s ≡ bookOf b
@@ -48,6 +51,11 @@ module _ (b : List ℕ) (s : Sections) (ok : Right b s) where
 
   pub right-few : termsIn s ≤ 64
   right-few = rw (ok .sections-are) (sections-few b (ok .counts-right))
+
+  pub right-whole : length (termBytes b s) ≡ 3 * termsIn s
+  right-whole =
+      let o = right-ordered b s ok in
+      length-stretch b (s .terms) (s .rules) (omega arith) ∙ rw (ok .sections-are) (sections-whole b)
 
   pub right-short : length (termBytes b s) ≤ 192
   right-short =
@@ -103,16 +111,9 @@ module _ (b : List ℕ) (s : Sections) (ok : Right b s) where
   pub right-names : nameCount (bookOf b) ≤ 16
   right-names = omega (arith, right-counts .1, names-few (termBytes b s) (ok .terms-right))
 
-  pub right-apart : NamesApart (bookAt b s .grading .terms)
-  right-apart = terms-apart (termBytes b s) (ok .terms-right)
-
 pub accepts-valid : (b : List ℕ) → Accepts b → Valid (bookOf b)
 unfolding bookOf
 accepts-valid b h = right-valid b (sectionsOf b) (accepts-right b h)
-
-pub accepts-apart : (b : List ℕ) → Accepts b → NamesApart (bookOf b .grading .terms)
-unfolding bookOf
-accepts-apart b h = right-apart b (sectionsOf b) (accepts-right b h)
 
 -- ---- the two editions
 

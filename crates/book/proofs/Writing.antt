@@ -112,7 +112,7 @@ bytesOf-bookOf b bytes accepts =
     let l : ℕ = 4 * countAt b 3 in
     let p : ℕ = 2 * countOfPairs b in
     let terms = terms-bytes (termBytes b s) termBytesOf (countAt b 0) (stretch-length b (s .terms) t (omega arith))
-    (λ i h. term-written i _ _ _ (ok .terms-right i h .0)) in
+    (λ i h. term-written i _ _ _ (ok .terms-right i h)) in
     let rules = rules-bytes (ruleBytes b s) ruleBytesOf (countAt b 1) (stretch-length b (s .rules) r (omega arith)) (λ i h. refl) in
     let memberships = memberships-written (membershipBytes b s) (countAt b 2) (bytes-stretch b (s .memberships) (s .links) bytes)
     (stretch-length b (s .memberships) m (omega arith)) in

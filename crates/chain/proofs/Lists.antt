@@ -238,6 +238,15 @@ each-mapped P f Q same (x ∷ xs) =
     let w = each-mapped P f Q same xs in
     (λ h. (same x .0 (h .0), w .0 (h .1)), λ h. (same x .1 (h .0), w .1 (h .1)))
 
+pub map-each-same : {A : Type 0} {P : A → Type 0} (f : A → A) → ((x : A) → P x → f x ≡ x) → (xs : List A) → Each P xs → map f xs ≡ xs
+map-each-same f same [] h = refl
+map-each-same f same (x ∷ xs) h = ap₂ _∷_ (same x (h .0)) (map-each-same f same xs (h .1))
+
+pub highest-mapped : {A B : Type 0} (f : B → ℕ) (g : A → B) (xs : List A) → highest f (map g xs) ≡ highest (λ x. f (g x)) xs
+unfolding highest
+highest-mapped f g [] = refl
+highest-mapped f g (x ∷ xs) = ap (max (f (g x))) (highest-mapped f g xs)
+
 pub each-flatMap : {A B : Type 0} (P : B → Type 0) (f : A → List B) (xs : List A) → Each (λ x. Each P (f x)) xs → Each P (flatMap f xs)
 unfolding flatMap
 each-flatMap P f [] h = tt

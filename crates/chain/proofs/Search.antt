@@ -1,7 +1,7 @@
 -- Laws of bounded search: the greatest number that passes, ranks and selection by rank, and strong induction.
 -- Assumes nothing.
-use mathlib.Core.Path.{_≡_, refl, sym, ap, subst}
-use mathlib.Core.Logic.{_⊎_, inl, inr, ⊎-elim, ite, if-neg, _↔_}
+use mathlib.Core.Path.{_≡_, refl, sym, ap, subst, _∙_}
+use mathlib.Core.Logic.{_⊎_, inl, inr, ⊎-elim, ite, dite, if-neg, _↔_}
 use Prim.Native.Nat.{ℕ, zero, suc, _-_, _≤_, _<_}
 use native.Mathlib.Nat.{not-suc-le-zero, eq-or-lt-of-le}
 use native.Mathlib.Omega.{arith}
@@ -69,6 +69,10 @@ module _ {P : ℕ → Type 0} (p : (i : ℕ) → Dec (P i)) where
       go (yes _) = (omega arith, λ _. refl)
       go (no m) = (omega arith, λ q. absurd (m q))
 
+  pub rank-none : rank p 0 ≡ 0
+  unfolding rank
+  rank-none = refl
+
   pub rank-yes : (n : ℕ) → P n → rank p (suc n) ≡ suc (rank p n)
   rank-yes n h = rank-step n .1 h
 
@@ -128,3 +132,22 @@ rank-same {P} {Q} p q (suc n) h = go (p n) (q n) (rank-same p q n (λ i l. h i (
     go (yes a) (no m) f = absurd (m (h n (omega arith) .0 a))
     go (no m) (yes b) f = absurd (m (h n (omega arith) .1 b))
     go (no _) (no _) f = f
+
+pub none-pass : {P : ℕ → Type 0} (p : (i : ℕ) → Dec (P i)) (n : ℕ) → ((i : ℕ) → ¬ P i) → rank p n ≡ 0
+none-pass p zero none = rank-none p
+none-pass p (suc n) none = rank-no p n (none n) ∙ none-pass p n none
+
+-- one number more passes
+pub rank-one-more : {P Q : ℕ → Type 0} (p : (i : ℕ) → Dec (P i)) (q : (i : ℕ) → Dec (Q i)) (x : ℕ) → ¬ P x → Q x → ((i : ℕ) → ¬ (i ≡ x) → P i ↔ Q i)
+    → (n : ℕ) → x < n → rank q n ≡ suc (rank p n)
+rank-one-more p q x fails passes same zero l = absurd (omega arith)
+rank-one-more p q x fails passes same (suc n) l = ⊎-elim here (λ g. before g (rank-one-more p q x fails passes same n g)) (below-cases n x l)
+  where
+    here : x ≡ n → rank q (suc n) ≡ suc (rank p (suc n))
+    here e =
+        rank-yes q n (rw (← e) passes) ∙ ap suc (sym (rank-same p q n (λ i g. same i (λ z. omega arith))) ∙ sym (rank-no p n (rw (← e) fails)))
+
+    before : x < n → rank q n ≡ suc (rank p n) → rank q (suc n) ≡ suc (rank p (suc n))
+    before g f =
+        let u = same n (λ z. omega arith) in
+        dite (p n) (λ a. rank-yes q n (u .0 a) ∙ ap suc (f ∙ sym (rank-yes p n a))) (λ m. rank-no q n (λ b. m (u .1 b)) ∙ f ∙ ap suc (sym (rank-no p n m)))

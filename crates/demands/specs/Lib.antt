@@ -5,6 +5,7 @@ pub mod Demand3
 pub mod Roles
 pub mod Sets
 pub mod Implied
+pub mod Names
 pub mod Written
 pub mod Readings
 pub mod Printed

@@ -1,4 +1,5 @@
--- The readings on file of document 01, on bytes: one theorem over the whole table, links and books; and one over readings of document 02, P1.
+-- The readings on file of document 01, on bytes: one theorem over the whole table, links and books; and three over readings of
+-- document 02, P1, P2 and P5.
 -- Assumes nothing.
 use mathlib.Core.Path.{_≡_, refl, _∙_}
 use mathlib.Core.Option.{none}
@@ -270,3 +271,57 @@ setComputing = (
 
 pub readings-of-sets : Each Reads setReadings
 readings-of-sets = mem-each {P = Reads} setReadings (λ q m. computed q (each-mem Computes setReadings setComputing q m))
+
+-- ---- readings of document 02, P5, of our own
+
+-- "A not greater than "some r0 A", claim A at least 1, N 1", with A in terms 0 and 2: the "some" goes by the one, rule and claim by the other
+abbrev pasted : List ℕ
+pasted =
+    0x01 ∷ 0x01 ∷ 0x00 ∷ 0x12 ∷ 0x00 ∷ 0x03 ∷ 0x00 ∷ 0x1b ∷ 0x00 ∷ 0x01 ∷ 0x00 ∷ 0x1d ∷ 0x00 ∷ 0x01 ∷ 0x00 ∷ 0x21 ∷ 0x00 ∷ 0x00
+    ∷ 0x00 ∷ 0x00 ∷ 0x00 ∷ 0x04 ∷ 0x00 ∷ 0x00 ∷ 0x00 ∷ 0x00 ∷ 0x00
+    ∷ 0x02 ∷ 0x01
+    ∷ 0x00 ∷ 0x02 ∷ 0x00 ∷ 0x01 ∷ []
+
+-- N 1: A, B and A again; A at least 1, by its second term, and B at most 0
+abbrev between : List ℕ
+between =
+    0x01 ∷ 0x01 ∷ 0x00 ∷ 0x12 ∷ 0x00 ∷ 0x03 ∷ 0x00 ∷ 0x1b ∷ 0x00 ∷ 0x00 ∷ 0x00 ∷ 0x1b ∷ 0x00 ∷ 0x02 ∷ 0x00 ∷ 0x23 ∷ 0x00 ∷ 0x00
+    ∷ 0x00 ∷ 0x00 ∷ 0x00 ∷ 0x00 ∷ 0x01 ∷ 0x00 ∷ 0x00 ∷ 0x00 ∷ 0x00
+    ∷ 0x00 ∷ 0x02 ∷ 0x00 ∷ 0x01 ∷ 0x00 ∷ 0x01 ∷ 0x01 ∷ 0x00 ∷ []
+
+-- N 1: A in two terms, at least 1 by the one and at most 0 by the other
+abbrev clashing : List ℕ
+clashing =
+    0x01 ∷ 0x01 ∷ 0x00 ∷ 0x12 ∷ 0x00 ∷ 0x02 ∷ 0x00 ∷ 0x18 ∷ 0x00 ∷ 0x00 ∷ 0x00 ∷ 0x18 ∷ 0x00 ∷ 0x02 ∷ 0x00 ∷ 0x20 ∷ 0x00 ∷ 0x00
+    ∷ 0x00 ∷ 0x00 ∷ 0x00 ∷ 0x00 ∷ 0x00 ∷ 0x00
+    ∷ 0x00 ∷ 0x00 ∷ 0x00 ∷ 0x01 ∷ 0x00 ∷ 0x01 ∷ 0x01 ∷ 0x00 ∷ []
+
+-- N 1: top, "some r0 top", A and A again, at least 1 by its second term
+abbrev behind : List ℕ
+behind =
+    0x01 ∷ 0x01 ∷ 0x00 ∷ 0x12 ∷ 0x00 ∷ 0x04 ∷ 0x00 ∷ 0x1e ∷ 0x00 ∷ 0x00 ∷ 0x00 ∷ 0x1e ∷ 0x00 ∷ 0x01 ∷ 0x00 ∷ 0x22 ∷ 0x00 ∷ 0x00
+    ∷ 0x06 ∷ 0x00 ∷ 0x00 ∷ 0x04 ∷ 0x00 ∷ 0x00 ∷ 0x00 ∷ 0x00 ∷ 0x00 ∷ 0x00 ∷ 0x00 ∷ 0x00
+    ∷ 0x00 ∷ 0x03 ∷ 0x00 ∷ 0x01 ∷ []
+
+abbrev pub nameReadings : List Reading
+nameReadings =
+    -- as the reading without the repeat: survivors 0, 2, 3, placed at 3
+    book-reading pasted 1 3 (1 ∷ 0 ∷ 1 ∷ 1 ∷ []) (0 ∷ 3 ∷ [])
+    -- A is digit 0, B digit 1, and the second A opens no place: four candidates, placed at 1
+    ∷ book-reading between 1 4 (1 ∷ 1 ∷ 1 ∷ 1 ∷ []) (0 ∷ 1 ∷ [])
+    -- one name has one grade: no type has both
+    ∷ book-reading clashing 2 2 (1 ∷ 1 ∷ []) []
+    -- "some" is digit 0, A digit 1: placed at 2
+    ∷ book-reading behind 1 4 (1 ∷ 1 ∷ 1 ∷ 1 ∷ []) (0 ∷ 2 ∷ []) ∷ []
+
+nameComputing : Each Computes nameReadings
+unfolding firstNo says lengthRight? editionRight? stepsRight? countsRight? laidOut? termsRight? rulesRight? membershipsRight? linksRight? pairsRight? fewCandidates?
+    bookOf byEdition sectionsOf wordAt termsOf rulesOf pairsOf membershipsOf membersOf linksOf table outcome placement placementAmong individuals highest tryEach holds? survivors
+    settle fits? from keep each? any? marksOf candidates places linkBetween gradeIn value deep placeNumber home homeAs bearer first opens? rank digit flatMap
+nameComputing = (
+  (refl, refl, refl, λ _. refl, λ _. refl),
+  ((refl, refl, refl, λ _. refl, λ _. refl), ((refl, refl, refl, λ _. refl, λ _. refl), ((refl, refl, refl, λ _. refl, λ _. refl), tt))),
+)
+
+pub readings-of-names : Each Reads nameReadings
+readings-of-names = mem-each {P = Reads} nameReadings (λ q m. computed q (each-mem Computes nameReadings nameComputing q m))

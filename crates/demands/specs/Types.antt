@@ -30,7 +30,7 @@ use Rattle.elimination.specs.Survivors.{Sound}
 use Rattle.elimination.proofs.Survivors as Survivors
 use Rattle.placement.specs.Outcome.{Unmentioned, seatedAs}
 use Rattle.placement.proofs.Outcome as Outcome
-use Rattle.checker.specs.Places.{PlaceKind, kindOf, placeOf}
+use Rattle.checker.specs.Places.{PlaceAt, placeOf}
 use Rattle.checker.specs.Asking.{gradeQuestions, linkQuestions, gradeAnswer, linkAnswer}
 use Rattle.checker.specs.declared.Answer.the-variants.{Grade}
 use Rattle.checker.proofs.Asking as Asking
@@ -50,13 +50,14 @@ module _ (b : List ℕ) (ok : Accepts b) where
   w : WellFormed G
   w = accepts-valid b ok .well-formed
 
-  -- "A place is a term of kind 0, 4 or 5. With k places, candidates are 0 to (N+1)^k − 1"
+  -- "A place is now a distinct name number, at its first term, or a quantified term." (document 02, P5). "With k places, candidates are 0 to
+  -- (N+1)^k − 1"
   pub candidates-are : candidates G ≡ (N + 1) ^ placeOf b (length (G .terms))
-  candidates-are = Places.candidates-by-kinds b ok
+  candidates-are = Places.candidates-by-places b ok
 
-  -- "the grade of the i-th place in term order, i from 0, is digit i in base N+1, lowest first"
-  pub places-are : (c i : ℕ) → i < length (G .terms) → PlaceKind (kindOf b i) → gradeIn G c i ≡ digit (N + 1) (placeOf b i) c
-  places-are = Places.grade-by-kinds b ok
+  -- "the grade of the i-th place in term order, i from 0, is digit i in base N+1, lowest first". "Candidate numbering follows the new places." (P5)
+  pub places-are : (c i : ℕ) → i < length (G .terms) → PlaceAt b i → gradeIn G c i ≡ digit (N + 1) (placeOf b i) c
+  places-are = Places.grade-by-places b ok
 
   -- "The other terms' grades follow.": by the rows of the table
   pub others-follow : Follows G (candidates G) (λ i c. gradeIn G c i)

@@ -3,3 +3,4 @@ pub mod Complete
 pub mod Listed
 pub mod Marks
 pub mod Witnesses
+pub mod Sharing

@@ -22,7 +22,7 @@ use Rattle.semantics.specs.Interpretations.{Grading, WellFormed}
 use Rattle.semantics.specs.Links.{Governs, TermAllows}
 use Rattle.semantics.proofs.Terms.{child-lt, local-same}
 use Rattle.semantics.proofs.Quantified.{quantified-alike}
-use Rattle.types.specs.Candidates.{place, IsPlace, Opens, opens?, home as homeOf, gradeIn}
+use Rattle.types.specs.Candidates.{place, HasPlace, Opens, opens?, home as homeOf, gradeIn}
 use Rattle.types.proofs.Candidates.{home-no-later, opens-home, gradeIn-local, gradeIn-le, gradeIn-opens, gradeIn-home}
 use Rattle.places.proofs.Places.{other-kind, opens-not, openBefore, none-open, open-more, open-same}
 use Rattle.gradings.specs.Gradings.{connectivesOf, grading}
@@ -52,7 +52,7 @@ module _ (l : Logic) (d home : ℕ) (s xs : List ℕ) where
       (aAt s (length xs)) (bAt s (length xs)) (λ _ _ _ _ _ _. refl) (λ _ n _ _ _ _. absurd (n refl)) (λ _ _ n _ _ _. absurd (n refl))
       (λ _ _ _ n _ _. absurd (n refl)) (λ _ _ _ _ _ _. refl) (λ _ _ _ _ _ _. refl) (λ _ _ _ _ n _. absurd (n refl))
       (λ _ _ _ _ _ n. absurd (n refl)) (λ k g l _ _ _ _ _. absurd (omega arith)) (kindAt s (length xs))
-      (described-kind (length xs) (kindAt s (length xs)) (aAt s (length xs)) (bAt s (length xs)) (ok (length xs) h .0))
+      (described-kind (length xs) (kindAt s (length xs)) (aAt s (length xs)) (bAt s (length xs)) (ok (length xs) h))
 
 -- ---- what is left of a candidate's digits
 
@@ -115,21 +115,21 @@ module _ (B c : ℕ) (s xs : List ℕ) (h : length xs < termCount s) where
       dite (decLt home (length xs))
       (λ m. sym (left-earlier B home xs c m) ∙ rest-other B c (termsOf s) (length xs) (λ o. omega (arith, e, u .0 o .1)))
       (λ n. sym (left-digit B home xs c n) ∙ rest-opens B c (termsOf s) (length xs)
-      (u .1 (subst (λ (t : Term). IsPlace (place t)) (sym (term-at s (length xs) h)) has, omega (arith, e, home-no-later (termsOf s) (length xs) below))))
+      (u .1 (subst (λ (t : Term). HasPlace (place t)) (sym (term-at s (length xs) h)) has, omega (arith, e, home-no-later (termsOf s) (length xs) below))))
     where
       below : length xs < length (termsOf s)
       below = rw (length-terms s) h
 
-      u : Opens (termsOf s) (length xs) ↔ (IsPlace (place (term (termsOf s) (length xs))) × (homeOf (termsOf s) (length xs) ≡ length xs))
+      u : Opens (termsOf s) (length xs) ↔ (HasPlace (place (term (termsOf s) (length xs))) × (homeOf (termsOf s) (length xs) ≡ length xs))
       u = opens-home (termsOf s) (length xs) below
 
-      has : IsPlace (place (termAt s (length xs)))
+      has : HasPlace (place (termAt s (length xs)))
       has =
-          by-kind (λ k t. k < 8 → ¬ (k ≡ 1) → ¬ (k ≡ 2) → ¬ (k ≡ 3) → ¬ (k ≡ 6) → ¬ (k ≡ 7) → IsPlace (place t))
+          by-kind (λ k t. k < 8 → ¬ (k ≡ 1) → ¬ (k ≡ 2) → ¬ (k ≡ 3) → ¬ (k ≡ 6) → ¬ (k ≡ 7) → HasPlace (place t))
           (aAt s (length xs)) (bAt s (length xs)) (λ _ _ _ _ _ _. tt) (λ _ n _ _ _ _. absurd (n refl)) (λ _ _ n _ _ _. absurd (n refl))
           (λ _ _ _ n _ _. absurd (n refl)) (λ _ _ _ _ _ _. tt) (λ _ _ _ _ _ _. tt) (λ _ _ _ _ n _. absurd (n refl))
           (λ _ _ _ _ _ n. absurd (n refl)) (λ k g l _ _ _ _ _. absurd (omega arith)) (kindAt s (length xs))
-          (described-kind (length xs) (kindAt s (length xs)) (aAt s (length xs)) (bAt s (length xs)) (ok (length xs) h .0)) n1 n2 n3 n6 n7
+          (described-kind (length xs) (kindAt s (length xs)) (aAt s (length xs)) (bAt s (length xs)) (ok (length xs) h)) n1 n2 n3 n6 n7
 
 -- ---- a row, one grade after the other
 
@@ -169,13 +169,13 @@ module _ (l : Logic) (s : List ℕ) (ok : TermsRight s) (c : ℕ) where
       long : length xs ≡ i
       long = ap length ex ∙ length-table (gradeIn G c) i
 
-      placed : (t : Term) → term (termsOf s) i ≡ t → IsPlace (place t) → own ≡ gradeIn G c i
+      placed : (t : Term) → term (termsOf s) i ≡ t → HasPlace (place t) → own ≡ gradeIn G c i
       placed t q p =
           dite (decLt home i)
           (λ m. sym (place-earlier d home xs (rw long m)) ∙ rw ex (getD-table (gradeIn G c) i home 0 m)
           ∙ sym (gradeIn-home G w c i below ∙ ap (gradeIn G c) (sym eh)))
           (λ n. let o : Opens (termsOf s) i =
-          opens-home (termsOf s) i below .1 (subst (λ (u : Term). IsPlace (place u)) (sym q) p, omega (arith, eh, home-no-later (termsOf s) i below)) in
+          opens-home (termsOf s) i below .1 (subst (λ (u : Term). HasPlace (place u)) (sym q) p, omega (arith, eh, home-no-later (termsOf s) i below)) in
           sym (place-digit d home xs (rw long n)) ∙ ed ∙ ap (λ (z : ℕ). z % (l .steps + 1)) er
           ∙ sym (gradeIn-opens G w c i below o ∙ digit-power (l .steps + 1) (openBefore (termsOf s) i) c))
 

@@ -96,7 +96,7 @@ module _ {s : List ℕ} {lg : Logic} {n A R : ℕ} {names links : List ℕ} (w :
     reached v long e l lo hi =
         let operands =
         by-quantified (λ k. roleAbove (termOf k (aAt s i) (bAt s i)) ≤ R → Described i k (aAt s i) (bAt s i) → (aAt s i < R) × (bAt s i < i))
-        (λ m r. (m, r .1)) (λ m r. (m, r .1)) (kindAt s i) lo hi (counted s roleAbove R (w .roles-counted) i h) (w .right i h .0) in
+        (λ m r. (m, r .1)) (λ m r. (m, r .1)) (kindAt s i) lo hi (counted s roleAbove R (w .roles-counted) i h) (w .right i h) in
         record {
           few-elements = w .few-elements;
           element = l;

@@ -16,7 +16,7 @@ use Rattle.semantics.specs.Terms.{Term, name, term}
 use Rattle.semantics.specs.Books.{nameAbove}
 use Rattle.types.specs.Candidates.{named?, home}
 use Rattle.types.proofs.Candidates.{home-first, home-other}
-use Rattle.sections.specs.Terms.{kindAt, aAt, bAt, termAt, termCount, termsOf, TermsRight}
+use Rattle.sections.specs.Terms.{kindAt, aAt, bAt, termCount, termsOf, TermsRight}
 use Rattle.sections.proofs.Terms.{by-kind, term-kind, range-kind, length-terms, term-at}
 use Rattle.places.specs.Homes.{noteOf, Noted}
 

@@ -6,7 +6,7 @@ ghost use lib.ListN.{length, getD};
 ghost use Rattle.chain.specs.Decisions.{Tells};
 ghost use Rattle.powers.specs.Bounded.{bounded};
 ghost use Rattle.semantics.specs.Interpretations.{graded};
-ghost use Rattle.types.specs.Candidates.{place, IsPlace, Opens, places, home as homeOf, candidates};
+ghost use Rattle.types.specs.Candidates.{place, HasPlace, Opens, places, home as homeOf, candidates};
 ghost use Rattle.sections.specs.Terms.{termAt, termsOf, termCount, TermsRight};
 ghost use Rattle.places.specs.Homes.{HomesOf, Noted};
 use encoding::wide;
@@ -63,9 +63,9 @@ pub fn find_homes(terms: &[u8]) -> [u8; 64]
 // ---- places
 
 // Is term `i` a name, a "some" or an "all"?
-fn is_place(s: &[u8], i: usize) -> bool
+fn has_place(s: &[u8], i: usize) -> bool
     requires { ⌜ i < termCount (now s) ⌝ }
-    ensures { λ r. ⌜ Tells r (IsPlace (place (termAt (now (s .entry)) i))) ⌝ }
+    ensures { λ r. ⌜ Tells r (HasPlace (place (termAt (now (s .entry)) i))) ⌝ }
 {
     let kind = s[3 * i];
     match kind {
@@ -77,11 +77,11 @@ fn is_place(s: &[u8], i: usize) -> bool
 }
 
 // Does term `i`, whose home is given, open a place?
-pub fn opens(terms: &[u8], i: usize, home: u8) -> bool
+fn opens(terms: &[u8], i: usize, home: u8) -> bool
     requires { ⌜ (i < termCount (now terms)) × (home ≡ homeOf (termsOf (now terms)) i) ⌝ }
     ensures { λ r. ⌜ Tells r (Opens (termsOf (now (terms .entry))) i) ⌝ }
 {
-    if !is_place(terms, i) {
+    if !has_place(terms, i) {
         return false;
     }
     wide(home) == i

@@ -1,23 +1,25 @@
 -- Laws of the terms' section: what "as described" comes to for each kind, and what the section's terms are.
 -- Assumes nothing.
-use mathlib.Core.Path.{_≡_, refl, sym, ap, subst, _∙_}
+use mathlib.Core.Path.{_≡_, refl, sym, ap, ap₂, subst, _∙_}
 use mathlib.Core.Bool.{Bool}
 use mathlib.Core.Logic.{_⊎_, ⊎-elim, dite}
-use mathlib.Core.List.{List, [], _∷_, flatMap}
-use Prim.Native.Nat.{ℕ, zero, suc, _*_, _≤_, _<_}
+use mathlib.Core.List.{List, [], _∷_, _++_, flatMap}
+use Prim.Native.Nat.{ℕ, zero, suc, _+_, _*_, _≤_, _<_}
 use native.Mathlib.Nat.{add-zero}
 use native.Mathlib.Decide.{decLt}
 use native.Mathlib.Omega.{arith}
-use lib.ListN.{length, List·getD-eq-default}
+use lib.ListN.{length, getD, length-append, List·getD-append, List·getD-eq-default}
+use lib.Seq.{getD-append-seam, getD-append-add}
 use Rattle.chain.specs.Decisions.{Tells}
 use Rattle.chain.specs.Lists.{highest, table}
 use Rattle.chain.specs.Connectives.{Quantifier, existential, universal}
-use Rattle.chain.proofs.Lists.{length-table, getD-table, highest-most}
+use Rattle.chain.proofs.Search.{below-cases}
+use Rattle.chain.proofs.Lists.{length-table, getD-table, table-same, table-snoc, highest-most}
 use Rattle.chain.proofs.Blocks.{blocks-whole}
-use Rattle.semantics.specs.Terms.{Term, name, not, and, or, some, all, top, bottom, term, Children, Ordered, NamesApart}
+use Rattle.semantics.specs.Terms.{Term, name, not, and, or, some, all, top, bottom, term, Children, Ordered}
 use Rattle.semantics.specs.Quantified.{quantified}
 use Rattle.semantics.specs.Books.{nameAbove, roleAbove}
-use Rattle.sections.specs.Terms.{termOf, quantifierOf, Described, kindAt, aAt, bAt, termCount, termAt, termsOf, TermsRight}
+use Rattle.sections.specs.Terms.{termOf, quantifierOf, Described, kindAt, aAt, bAt, termCount, termAt, termsOf, TermRight, TermsRight}
 
 -- the kind of a described term is 0 to 7
 pub described-kind : (i kind a b : ℕ) → Described i kind a b → kind < 8
@@ -75,7 +77,7 @@ module _ (s : List ℕ) (i : ℕ) where
   term-kind k e = ap (λ (z : ℕ). termOf z (aAt s i) (bAt s i)) e
 
   pub range-kind : TermsRight s → i < termCount s → (k : ℕ) → kindAt s i ≡ k → Described i k (aAt s i) (bAt s i)
-  range-kind ok h k e = subst (λ (z : ℕ). Described i z (aAt s i) (bAt s i)) e (ok i h .0)
+  range-kind ok h k e = subst (λ (z : ℕ). Described i z (aAt s i) (bAt s i)) e (ok i h)
 
 -- ---- the section's terms
 
@@ -96,30 +98,20 @@ module _ (s : List ℕ) where
   terms-bytes f n e h = blocks-whole f 3 n 0 (termAt s) s (omega arith) e (λ i l. let w = h i l in cc (add-zero (3 * i)))
 
   module _ (ok : TermsRight s) where
-    -- check 6 establishes what the theory asks: children stand below, and no name stands twice
+    -- check 6 establishes what the theory asks: children stand below
     pub terms-ordered : Ordered (termsOf s)
     terms-ordered i l =
         let h : i < termCount s = rw (← length-terms) l in
         subst (Children i) (sym (term-at i h))
         (by-kind (λ k t. Described i k (aAt s i) (bAt s i) → Children i t) (aAt s i) (bAt s i)
-        (λ _. tt) (λ d. d .0) (λ d. d) (λ d. d) (λ d. d .1) (λ d. d .1) (λ _. tt) (λ _. tt) (λ k _ _. tt) (kindAt s i) (ok i h .0))
+        (λ _. tt) (λ d. d .0) (λ d. d) (λ d. d) (λ d. d .1) (λ d. d .1) (λ _. tt) (λ _. tt) (λ k _ _. tt) (kindAt s i) (ok i h))
 
     -- a term that is a name has kind 0 and the name's number
     pub name-bytes : (i a : ℕ) → i < termCount s → term (termsOf s) i ≡ name a → (kindAt s i ≡ 0) × (aAt s i ≡ a)
     name-bytes i a h e =
         let t : termAt s i ≡ name a = sym (term-at i h) ∙ e in
-        let k : kindAt s i ≡ 0 = sym (kind-number (kindAt s i) (aAt s i) (bAt s i) (described-kind i _ _ _ (ok i h .0))) ∙ ap kindNumber t in
+        let k : kindAt s i ≡ 0 = sym (kind-number (kindAt s i) (aAt s i) (bAt s i) (described-kind i _ _ _ (ok i h))) ∙ ap kindNumber t in
         (k, omega (arith, ap nameAbove (sym (term-kind s i 0 k) ∙ t)))
-
-    pub terms-apart : NamesApart (termsOf s)
-    terms-apart i j a hi hj ei ej =
-        let li : i < termCount s = rw (← length-terms) hi in
-        let lj : j < termCount s = rw (← length-terms) hj in
-        let u = name-bytes i a li ei in
-        let v = name-bytes j a lj ej in
-        let m : ¬ (i < j) = λ l. ok j lj .1 i l (v .0, (u .0, v .1 ∙ sym (u .1))) in
-        let n : ¬ (j < i) = λ l. ok i li .1 j l (u .0, (v .0, u .1 ∙ sym (v .1))) in
-        omega arith
 
     -- the names are 0 to 15, and the roles 0 to 7
     pub names-few : highest nameAbove (termsOf s) ≤ 16
@@ -127,7 +119,7 @@ module _ (s : List ℕ) where
     names-few =
         highest-most nameAbove (termAt s) (termCount s) 16 (λ i l.
         by-kind (λ k t. Described i k (aAt s i) (bAt s i) → nameAbove t ≤ 16) (aAt s i) (bAt s i)
-        (λ d. d .0) none none none none none none none (λ k _. none) (kindAt s i) (ok i l .0))
+        (λ d. d .0) none none none none none none none (λ k _. none) (kindAt s i) (ok i l))
       where
         none : {A : Type 0} → A → 0 ≤ 16
         none _ = omega arith
@@ -137,10 +129,49 @@ module _ (s : List ℕ) where
     roles-few =
         highest-most roleAbove (termAt s) (termCount s) 8 (λ i l.
         by-kind (λ k t. Described i k (aAt s i) (bAt s i) → roleAbove t ≤ 8) (aAt s i) (bAt s i)
-        none none none none (λ d. d .0) (λ d. d .0) none none (λ k _. none) (kindAt s i) (ok i l .0))
+        none none none none (λ d. d .0) (λ d. d .0) none none (λ k _. none) (kindAt s i) (ok i l))
       where
         none : {A : Type 0} → A → 0 ≤ 8
         none _ = omega arith
+
+-- ---- one term more, at the end
+
+module _ (s : List ℕ) (n : ℕ) (whole : length s ≡ 3 * n) (k a b : ℕ) where
+  abbrev more : List ℕ
+  more = s ++ (k ∷ a ∷ b ∷ [])
+
+  pub count-more : termCount more ≡ suc n
+  count-more = omega (arith, length-append s (k ∷ a ∷ b ∷ []))
+
+  count-before : termCount s ≡ n
+  count-before = omega arith
+
+  byte-before : (j : ℕ) → j < 3 * n → getD more j 0 ≡ getD s j 0
+  byte-before j h = List·getD-append s (k ∷ a ∷ b ∷ []) 0 j (omega arith)
+
+  kind-last : kindAt more n ≡ k
+  kind-last = rw whole at (getD-append-seam s k (a ∷ b ∷ []) 0)
+
+  byte-last : (j : ℕ) → getD more (3 * n + j) 0 ≡ getD (k ∷ a ∷ b ∷ []) j 0
+  byte-last j = rw whole at (getD-append-add s (k ∷ a ∷ b ∷ []) j 0)
+
+  pub terms-more : termsOf more ≡ termsOf s ++ (termOf k a b ∷ [])
+  unfolding termsOf
+  terms-more =
+      rw (count-more, count-before) (table-snoc (termAt more) n
+      ∙ ap₂ (λ (ts : List Term) (t : Term). ts ++ (t ∷ []))
+      (table-same (termAt more) (termAt s) n (λ i h. rw (byte-before (3 * i) (omega arith), byte-before (3 * i + 1) (omega arith), byte-before (3 * i + 2) (omega arith))))
+      (rw (kind-last, byte-last 1, byte-last 2)))
+
+  pub right-more : TermsRight s → Described n k a b → TermsRight more
+  right-more ok d i h = ⊎-elim last before (below-cases n i (omega (arith, count-more)))
+    where
+      last : i ≡ n → TermRight more i
+      last e = rw e (rw (kind-last, byte-last 1, byte-last 2) d)
+
+      before : i < n → TermRight more i
+      before l =
+          rw (byte-before (3 * i) (omega arith), byte-before (3 * i + 1) (omega arith), byte-before (3 * i + 2) (omega arith)) (ok i (omega (arith, count-before)))
 
 -- ---- by the kind of a quantified term
 

@@ -3,9 +3,9 @@
 use mathlib.Core.Path.{_≡_}
 use mathlib.Core.List.{List, [], _∷_}
 use Prim.Native.Nat.{ℕ, _+_, _*_, _/_, _<_}
-use native.Mathlib.Decide.{ℕ-discrete, decLt}
+use native.Mathlib.Decide.{decLt}
 use lib.ListN.{length, getD}
-use Rattle.chain.specs.Decisions.{dec-and, dec-not}
+use Rattle.chain.specs.Decisions.{dec-and}
 use Rattle.chain.specs.Search.{all?}
 use Rattle.chain.specs.Lists.{table}
 use Rattle.chain.specs.Connectives.{Quantifier, existential, universal}
@@ -62,16 +62,14 @@ module _ (s : List ℕ) where
   abbrev pub SameName : ℕ → ℕ → Type 0
   SameName i j = (kindAt i ≡ 0) × ((kindAt j ≡ 0) × (aAt i ≡ aAt j))
 
-  -- term i is as described, and "A name number stands in at most one term"
+  -- term i is as described. A name may recur: "Check 6 no longer objects." (document 02, P5)
   abbrev pub TermRight : ℕ → Type 0
-  TermRight i = Described i (kindAt i) (aAt i) (bAt i) × ((j : ℕ) → j < i → ¬ SameName i j)
+  TermRight i = Described i (kindAt i) (aAt i) (bAt i)
 
   -- "Is every term as described?"
   abbrev pub TermsRight : Type 0
   TermsRight = (i : ℕ) → i < termCount → TermRight i
 
   unfoldable pub termsRight? : Dec TermsRight
-  unfolding all? described? dec-and dec-not ℕ-discrete
-  termsRight? =
-      all? (λ i. dec-and (described? i (kindAt i) (aAt i) (bAt i))
-      (all? (λ j. dec-not (dec-and (ℕ-discrete (kindAt i) 0) (dec-and (ℕ-discrete (kindAt j) 0) (ℕ-discrete (aAt i) (aAt j))))) i)) termCount
+  unfolding all? described?
+  termsRight? = all? (λ i. described? i (kindAt i) (aAt i) (bAt i)) termCount

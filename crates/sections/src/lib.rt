@@ -1,7 +1,7 @@
 // The terms of a book, checked over their own stretch of bytes.
-ghost use Prim.Native.Nat.{ℕ, _<_};
+ghost use Prim.Native.Nat.{_<_};
 ghost use Rattle.chain.specs.Decisions.{Tells};
-ghost use Rattle.sections.specs.Terms.{termCount, Described, SameName, TermRight, TermsRight};
+ghost use Rattle.sections.specs.Terms.{termCount, Described, TermRight, TermsRight};
 use encoding::wide;
 
 // ---- terms: three bytes each (check 6)
@@ -47,46 +47,11 @@ fn described(i: usize, kind: u8, a: u8, b: u8) -> bool
     false
 }
 
-fn same_name(s: &[u8], i: usize, j: usize) -> bool
-    requires { ⌜ (i < termCount (now s)) × (j < termCount (now s)) ⌝ }
-    ensures { λ r. ⌜ Tells r (SameName (now (s .entry)) i j) ⌝ }
-{
-    if s[3 * i] != 0 {
-        return false;
-    }
-    if s[3 * j] != 0 {
-        return false;
-    }
-    s[3 * i + 1] == s[3 * j + 1]
-}
-
-// Is term `i` no name that an earlier term has? There are at most 16 names, so the search is short.
-fn new_name(s: &[u8], i: usize) -> bool
-    requires { ⌜ i < termCount (now s) ⌝ }
-    ensures { λ r. ⌜ Tells r ((j : ℕ) → j < i → SameName (now (s .entry)) i j → ⊥) ⌝ }
-{
-    let mut j = 0;
-    while j < i {
-        if same_name(s, i, j) {
-            return false;
-        }
-        j += 1;
-    }
-    true
-}
-
 fn term_right(s: &[u8], i: usize) -> bool
     requires { ⌜ i < termCount (now s) ⌝ }
     ensures { λ r. ⌜ Tells r (TermRight (now (s .entry)) i) ⌝ }
 {
-    let kind = s[3 * i];
-    if !described(i, kind, s[3 * i + 1], s[3 * i + 2]) {
-        return false;
-    }
-    if kind != 0 {
-        return true;
-    }
-    new_name(s, i)
+    described(i, s[3 * i], s[3 * i + 1], s[3 * i + 2])
 }
 
 pub fn terms_right(s: &[u8]) -> bool

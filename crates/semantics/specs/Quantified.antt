@@ -24,7 +24,7 @@ EachOfRole ts q r P = (i : ℕ) → i < length ts → (c : ℕ) → term ts i �
 -- ---- their decisions, by cases on the term
 
 module _ (P : Quantifier → ℕ → ℕ → Type 0) where
-  abbrev Case : Term → Type 0
+  abbrev pub Case : Term → Type 0
   Case (name a) = Unit {0}
   Case (not c) = Unit {0}
   Case (and c d) = Unit {0}

@@ -1,6 +1,5 @@
 -- Terms (concepts), as document 01's table has them, and their evaluation once for every carrier.
 -- Assumes nothing.
-use mathlib.Core.Path.{_≡_}
 use mathlib.Core.List.{List}
 use Prim.Native.Nat.{ℕ, zero, suc, _<_}
 use lib.ListN.{length, getD}
@@ -31,10 +30,6 @@ Children i bottom = Unit {0}
 
 abbrev pub Ordered : List Term → Type 0
 Ordered ts = (i : ℕ) → i < length ts → Children i (term ts i)
-
--- "A name number stands in at most one term" (check 6)
-abbrev pub NamesApart : List Term → Type 0
-NamesApart ts = (i j a : ℕ) → i < length ts → j < length ts → term ts i ≡ name a → term ts j ≡ name a → i ≡ j
 
 -- ---- evaluation
 

@@ -3,18 +3,18 @@
 use mathlib.Core.Path.{_≡_, refl, sym, ap, subst, _∙_}
 use mathlib.Core.Logic.{_⊎_, inl, inr, ⊎-elim, _↔_}
 use mathlib.Core.List.{List}
-use Prim.Native.Nat.{ℕ, suc, _^_, _≤_, _<_}
+use Prim.Native.Nat.{ℕ, _≤_, _<_}
 use native.Mathlib.Omega.{arith}
 use lib.ListN.{length}
 use Rattle.chain.specs.Search.{First, rank}
 use Rattle.chain.specs.Digits.{digit}
-use Rattle.chain.proofs.Search.{strong, rank-yes, rank-no, rank-lt, rank-onto, rank-same, select-rank, select-lt}
+use Rattle.chain.proofs.Search.{strong, rank-lt, rank-onto, select-rank, select-lt}
 use Rattle.chain.proofs.Digits.{digit-lt, encode-lt, digit-encode, digits-inj}
-use Rattle.semantics.specs.Terms.{Term, name, not, and, or, some, all, top, bottom, term, Children, local, NamesApart}
+use Rattle.semantics.specs.Terms.{Term, name, not, and, or, some, all, top, bottom, term, Children, local}
 use Rattle.semantics.specs.Interpretations.{Grading, WellFormed, Interpretation, OnChain, gradeAt}
 use Rattle.semantics.specs.Books.{nameAbove}
 use Rattle.semantics.specs.Table.{Follows}
-use Rattle.types.specs.Candidates.{Place, named, quantifying, follows, place, named?, bearer, OpensAs, Opens, opens?, places, homeAs, home, placeNumber, base, candidates, inCandidate, gradeIn, HasType, placeGrade, typeOf, IsPlace, isPlace?, placesBefore}
+use Rattle.types.specs.Candidates.{Place, named, quantifying, follows, place, named?, bearer, OpensAs, Opens, opens?, places, homeAs, home, placeNumber, base, candidates, inCandidate, gradeIn, HasType, placeGrade, typeOf, HasPlace}
 use Rattle.semantics.proofs.Terms.{value-local, value-unique}
 use Rattle.semantics.proofs.Interpretations.{gradeAt-local, gradeAt-le}
 
@@ -40,13 +40,13 @@ module _ (ts : List Term) where
       go (inl w) = (w .1, subst (OpensAs ts (w .0)) (sym (ap place (w .2))) (w .3), w .2)
       go (inr f) = absurd (f i l e)
 
-  own-first : (i a : ℕ) → i < length ts → term ts i ≡ name a → (j : ℕ) → j < home ts i → ¬ (term ts j ≡ name a)
-  own-first i a l e = let h = home-name i a l e in subst (OpensAs ts (home ts i)) (ap place (h .2)) (h .1)
+  pub home-none : (i a : ℕ) → i < length ts → term ts i ≡ name a → (j : ℕ) → j < home ts i → ¬ (term ts j ≡ name a)
+  home-none i a l e = let h = home-name i a l e in subst (OpensAs ts (home ts i)) (ap place (h .2)) (h .1)
 
   -- so it is the first term that has the name
   pub home-first : (i a x : ℕ) → i < length ts → term ts i ≡ name a → term ts x ≡ name a → ((j : ℕ) → j < x → ¬ (term ts j ≡ name a)) → home ts i ≡ x
   home-first i a x l e f n =
-      let m : ¬ (x < home ts i) = λ h. own-first i a l e x h f in
+      let m : ¬ (x < home ts i) = λ h. home-none i a l e x h f in
       let k : ¬ (home ts i < x) = λ h. n (home ts i) h (home-name i a l e .2) in
       omega arith
 
@@ -67,7 +67,7 @@ module _ (ts : List Term) where
 
   pub home-no-later : (i : ℕ) → i < length ts → home ts i ≤ i
   home-no-later i l =
-      ⊎-elim (λ w. let n : ¬ (i < home ts i) = λ h. own-first i (w .0) l (w .1) i h (w .1) in omega arith) (λ e. omega (arith, home-other i e))
+      ⊎-elim (λ w. let n : ¬ (i < home ts i) = λ h. home-none i (w .0) l (w .1) i h (w .1) in omega arith) (λ e. omega (arith, home-other i e))
       (name-or-none (term ts i))
 
   pub home-quantifying : (i : ℕ) → place (term ts i) ≡ quantifying → (home ts i ≡ i) × Opens ts i
@@ -96,17 +96,25 @@ module _ (ts : List Term) where
       go top e o = absurd o
       go bottom e o = absurd o
 
+  -- a term's home is its own, and is the same term
+  pub home-home : (i : ℕ) → i < length ts → home ts (home ts i) ≡ home ts i
+  home-home i l =
+      ⊎-elim (λ w. let h = home-name i (w .0) l (w .1) in home-opens (home ts i) (h .0) (h .1)) (λ e. ap (home ts) (home-other i e)) (name-or-none (term ts i))
+
+  pub term-home : (i : ℕ) → i < length ts → term ts (home ts i) ≡ term ts i
+  term-home i l = ⊎-elim (λ w. home-name i (w .0) l (w .1) .2 ∙ sym (w .1)) (λ e. ap (term ts) (home-other i e)) (name-or-none (term ts i))
+
   -- what opens a place is a name or a quantified term that is its own home
-  pub opens-home : (i : ℕ) → i < length ts → Opens ts i ↔ (IsPlace (place (term ts i)) × (home ts i ≡ i))
+  pub opens-home : (i : ℕ) → i < length ts → Opens ts i ↔ (HasPlace (place (term ts i)) × (home ts i ≡ i))
   opens-home i l = (λ o. (opens-is (place (term ts i)) o, home-opens i l o), λ h. go (term ts i) refl (h .0) (h .1))
     where
-      opens-is : (p : Place) → OpensAs ts i p → IsPlace p
+      opens-is : (p : Place) → OpensAs ts i p → HasPlace p
       opens-is (named a) o = tt
       opens-is quantifying o = tt
       opens-is follows o = o
 
-      go : (t : Term) → term ts i ≡ t → IsPlace (place t) → home ts i ≡ i → OpensAs ts i (place t)
-      go (name a) e _ h = λ j m. own-first i a l e j (rw h m)
+      go : (t : Term) → term ts i ≡ t → HasPlace (place t) → home ts i ≡ i → OpensAs ts i (place t)
+      go (name a) e _ h = λ j m. home-none i a l e j (rw h m)
       go (not c) e p h = p
       go (and c d) e p h = p
       go (or c d) e p h = p
@@ -114,44 +122,6 @@ module _ (ts : List Term) where
       go (all r c) e _ h = tt
       go top e p h = p
       go bottom e p h = p
-
-  -- ---- the places, counted one term after the other
-
-  pub placesBefore-zero : placesBefore ts 0 ≡ 0
-  unfolding placesBefore rank
-  placesBefore-zero = refl
-
-  pub placesBefore-place : (i : ℕ) → IsPlace (place (term ts i)) → placesBefore ts (suc i) ≡ suc (placesBefore ts i)
-  unfolding placesBefore
-  placesBefore-place = rank-yes (λ j. isPlace? (place (term ts j)))
-
-  pub placesBefore-other : (i : ℕ) → ¬ IsPlace (place (term ts i)) → placesBefore ts (suc i) ≡ placesBefore ts i
-  unfolding placesBefore
-  placesBefore-other = rank-no (λ j. isPlace? (place (term ts j)))
-
-  -- ---- where no name stands twice: a place is a term of kind 0, 4 or 5, and its number is how many stand before it
-
-  module _ (apart : NamesApart ts) where
-    pub opens-place : (i : ℕ) → i < length ts → Opens ts i ↔ IsPlace (place (term ts i))
-    opens-place i l = go (term ts i) refl
-      where
-        go : (t : Term) → term ts i ≡ t → OpensAs ts i (place t) ↔ IsPlace (place t)
-        go (name a) e = (λ _. tt, λ _ j h f. absurd (omega (arith, apart i j a l (omega arith) e f)))
-        go (not c) e = (λ z. z, λ z. z)
-        go (and c d) e = (λ z. z, λ z. z)
-        go (or c d) e = (λ z. z, λ z. z)
-        go (some r c) e = (λ z. z, λ z. z)
-        go (all r c) e = (λ z. z, λ z. z)
-        go top e = (λ z. z, λ z. z)
-        go bottom e = (λ z. z, λ z. z)
-
-    pub places-count : places ts ≡ placesBefore ts (length ts)
-    unfolding places placesBefore
-    places-count = rank-same (opens? ts) (λ j. isPlace? (place (term ts j))) (length ts) opens-place
-
-    pub rank-opens : (i : ℕ) → i < length ts → rank (opens? ts) i ≡ placesBefore ts i
-    unfolding placesBefore
-    rank-opens i l = rank-same (opens? ts) (λ j. isPlace? (place (term ts j))) i (λ j g. opens-place j (omega arith))
 
 -- ---- the grades in a candidate
 
@@ -194,16 +164,6 @@ module _ (G : Grading) (w : WellFormed G) where
       go (all r x) e o = gradeIn-local c i l (all r x) e
       go top e o = absurd o
       go bottom e o = absurd o
-
-  -- .. and where no name stands twice, of each term of kind 0, 4 or 5
-  pub gradeIn-place : NamesApart (G .terms) → (c i : ℕ) → i < length (G .terms) → IsPlace (place (term (G .terms) i))
-      → gradeIn G c i ≡ digit (base G) (placesBefore (G .terms) i) c
-  gradeIn-place apart c i l h =
-      gradeIn-opens c i l (opens-place (G .terms) apart i l .1 h) ∙ ap (λ (s : ℕ). digit (base G) s c) (rank-opens (G .terms) apart i l)
-
-  pub candidates-count : NamesApart (G .terms) → candidates G ≡ base G ^ placesBefore (G .terms) (length (G .terms))
-  unfolding candidates
-  candidates-count apart = ap (λ (k : ℕ). base G ^ k) (places-count (G .terms) apart)
 
   -- a term has the grade of its home,
   pub gradeIn-home : (c i : ℕ) → i < length (G .terms) → gradeIn G c i ≡ gradeIn G c (home (G .terms) i)

@@ -29,16 +29,11 @@ place (all r c) = quantifying
 place top = follows
 place bottom = follows
 
--- "A place is a term of kind 0, 4 or 5."
-abbrev pub IsPlace : Place → Type 0
-IsPlace (named a) = Unit {0}
-IsPlace quantifying = Unit {0}
-IsPlace follows = ⊥
-
-unfoldable pub isPlace? : (p : Place) → Dec (IsPlace p)
-isPlace? (named a) = yes tt
-isPlace? quantifying = yes tt
-isPlace? follows = no (λ z. z)
+-- a name or a quantified term has a place
+abbrev pub HasPlace : Place → Type 0
+HasPlace (named a) = Unit {0}
+HasPlace quantifying = Unit {0}
+HasPlace follows = ⊥
 
 module _ (ts : List Term) where
   unfoldable pub named? : (a i : ℕ) → Dec (term ts i ≡ name a)
@@ -50,13 +45,8 @@ module _ (ts : List Term) where
   unfolding named?
   bearer a = first (named? a) (length ts)
 
-  -- how many of the terms before number i are places
-  unfoldable pub placesBefore : ℕ → ℕ
-  unfolding isPlace?
-  placesBefore = rank (λ j. isPlace? (place (term ts j)))
-
-  -- Term i opens a place. A name opens one at its first term only, so that terms with one name would have one grade in every type. Check 6
-  -- admits no name twice, and then a place is just "a term of kind 0, 4 or 5" (`opens-place` of proofs/Candidates).
+  -- Term i opens a place: "A place is now a distinct name number, at its first term, or a quantified term." (document 02, P5). So terms with one name
+  -- have one place, and one grade in every type.
   abbrev pub OpensAs : ℕ → Place → Type 0
   OpensAs i (named a) = (j : ℕ) → j < i → ¬ (term ts j ≡ name a)
   OpensAs i quantifying = Unit {0}

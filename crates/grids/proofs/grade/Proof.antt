@@ -54,7 +54,7 @@ plain-grade-requires c κs =
     let w = s .pre .0 .1 in
     let i = s .pre .1 .0 .0 in
     let e = s .pre .1 .0 .1 in (
-      (omega (arith, w .few-terms), omega (arith, w .few-elements), w .right (s .args .i) i .0),
+      (omega (arith, w .few-terms), omega (arith, w .few-elements), w .right (s .args .i) i),
       (
         λ j h. cell-le w (s .args .i) (s .args .values .now) (omega arith) (s .pre .1 .1) j h (s .args .e) e,
         (

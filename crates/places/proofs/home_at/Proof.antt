@@ -1,11 +1,11 @@
 -- `places::home_at` meets its contract.
 -- Assumes nothing.
 use mathlib.Core.Path.{_≡_, sym}
-use Prim.Native.Nat.{ℕ, _<_}
+use Prim.Native.Nat.{_<_}
 use native.Mathlib.Omega.{arith}
-use lib.ListN.{length, getD}
+use lib.ListN.{getD}
 use borrow.Author.Needs.{needs}
-use Rattle.sections.specs.Terms.{kindAt, aAt}
+use Rattle.sections.specs.Terms.{aAt}
 use Rattle.places.proofs.Homes.{other-home, other-noted, name-few, known-home, known-noted, new-home, new-noted}
 use Rattle.places.proofs.home_at.Statement.{statement}
 use Rattle.places.proofs.home_at.Tie as tie
