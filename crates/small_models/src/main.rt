@@ -1,10 +1,12 @@
 // A second decider. It tries the small interpretations of small books, and holds the decider to them; it works out the interpretation of the types
-// that the decider lists; and it has the book decided again with its sets written out. It is written from documents 01 and 02 alone.
+// that the decider lists; and it has the book decided again with its sets written out and with its recurring names shared. It is written from
+// documents 01 and 02 alone.
 mod grades;
 mod listed;
 mod meets;
 mod random;
 mod shape;
+mod shared;
 mod singles;
 mod types;
 mod worlds;
@@ -105,6 +107,21 @@ fn same_written_out(
     same_decision(&out, length, outcome, survivors, marks, placement)
 }
 
+// Is the same decided of the book with its recurring names shared? A book without any stays as it is.
+fn same_shared(
+    book: &[u8],
+    b: &[u8],
+    s: Shape,
+    outcome: u8,
+    survivors: usize,
+    marks: &[u8],
+    placement: &[u8],
+) -> bool {
+    let mut out = [0u8; 96];
+    let length = shared::write(book, b, s, &mut out);
+    length == book.len() || same_decision(&out, length, outcome, survivors, marks, placement)
+}
+
 fn decided(
     mut sums: Sums,
     book: &[u8],
@@ -124,7 +141,8 @@ fn decided(
     seen = worlds::all(seen, b, s, outcome, marks);
     sums.seen = seen;
     let right = listed::right(b, s, outcome, survivors, marks, placement)
-        && same_written_out(book, b, s, outcome, survivors, marks, placement);
+        && same_written_out(book, b, s, outcome, survivors, marks, placement)
+        && same_shared(book, b, s, outcome, survivors, marks, placement);
     judged(count(sums, outcome), right && seen.right)
 }
 

@@ -78,6 +78,19 @@ pub fn is_quantified(kind: usize) -> bool {
     kind == 4 || kind == 5
 }
 
+// The first term that has the name of term `i`; a term that is no name stands for itself.
+pub fn first_term(b: &[u8], i: usize) -> usize {
+    if term(b, i, 0) != 0 {
+        return i;
+    }
+    for j in 0..i {
+        if term(b, j, 0) == 0 && term(b, j, 1) == term(b, i, 1) {
+            return j;
+        }
+    }
+    i
+}
+
 // One more than the highest name number.
 fn names(b: &[u8], terms: usize) -> usize {
     let mut count = 0;

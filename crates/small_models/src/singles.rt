@@ -10,7 +10,7 @@ use std::num::wrapping_add_usize;
 use std::num::wrapping_sub_usize;
 
 // Each writer of bytes answers the place after what it wrote.
-fn put(out: &mut [u8], at: usize, x: usize) -> usize {
+pub fn put(out: &mut [u8], at: usize, x: usize) -> usize {
     set(out, at, (x % 256) as u8);
     wrapping_add_usize(at, 1)
 }
@@ -42,7 +42,7 @@ fn put_memberships(b: &[u8], s: Shape, out: &mut [u8], at: usize) -> usize {
     next
 }
 
-fn put_part(book: &[u8], from: usize, end: usize, out: &mut [u8], at: usize) -> usize {
+pub fn put_part(book: &[u8], from: usize, end: usize, out: &mut [u8], at: usize) -> usize {
     let mut next = at;
     for i in from..end {
         next = put(out, next, number(book, i));

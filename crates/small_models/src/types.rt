@@ -3,6 +3,7 @@ ghost use Prim.Native.Nat.{_≤_};
 use crate::grades::joined;
 use crate::shape::Shape;
 use crate::shape::cell;
+use crate::shape::first_term;
 use crate::shape::is_quantified;
 use crate::shape::term;
 use reports::numbers::times;
@@ -11,8 +12,10 @@ use reports::text::byte;
 use reports::text::set;
 use std::num::wrapping_add_usize;
 
-fn is_place(kind: usize) -> bool {
-    kind == 0 || is_quantified(kind)
+// Is term `i` a place: quantified, or a name at its first term?
+fn is_place(b: &[u8], i: usize) -> bool {
+    let kind = term(b, i, 0);
+    is_quantified(kind) || (kind == 0 && first_term(b, i) == i)
 }
 
 // How many grades there are.
@@ -25,7 +28,7 @@ pub fn levels(s: Shape) -> usize
 pub fn candidates(b: &[u8], s: Shape) -> usize {
     let mut count = 1;
     for i in 0..s.terms {
-        if is_place(term(b, i, 0)) {
+        if is_place(b, i) {
             count = times(count, levels(s));
         }
     }
@@ -37,7 +40,7 @@ pub fn shown(b: &[u8], s: Shape, grid: &[u8], e: usize) -> usize {
     let mut c = 0;
     let mut weight = 1;
     for i in 0..s.terms {
-        if is_place(term(b, i, 0)) {
+        if is_place(b, i) {
             let digit = wide(byte(grid, cell(e, s.terms, i)));
             c = wrapping_add_usize(c, times(weight, digit));
             weight = times(weight, levels(s));
@@ -46,11 +49,14 @@ pub fn shown(b: &[u8], s: Shape, grid: &[u8], e: usize) -> usize {
     c
 }
 
-// The grade of term `i`: a place's is the next digit, another's follows from the terms before it in row `j`.
+// The grade of term `i`: a place's is the next digit, that of a name again is the first's, another's follows from the terms before it in row `j`.
 fn grade(b: &[u8], s: Shape, types: &[u8], j: usize, i: usize, rest: usize) -> u8 {
     let kind = term(b, i, 0);
-    if is_place(kind) {
+    if is_place(b, i) {
         return (rest % levels(s) % 256) as u8;
+    }
+    if kind == 0 {
+        return byte(types, cell(j, s.terms, first_term(b, i)));
     }
     joined(
         s.steps,
@@ -60,8 +66,8 @@ fn grade(b: &[u8], s: Shape, types: &[u8], j: usize, i: usize, rest: usize) -> u
     )
 }
 
-fn rest_after(s: Shape, kind: usize, rest: usize) -> usize {
-    if is_place(kind) {
+fn rest_after(b: &[u8], s: Shape, i: usize, rest: usize) -> usize {
+    if is_place(b, i) {
         rest / levels(s)
     } else {
         rest
@@ -74,7 +80,7 @@ fn fill_type(b: &[u8], s: Shape, types: &mut [u8], j: usize, c: usize) {
     for i in 0..s.terms {
         let g = grade(b, s, types, j, i, rest);
         set(types, cell(j, s.terms, i), g);
-        rest = rest_after(s, term(b, i, 0), rest);
+        rest = rest_after(b, s, i, rest);
     }
 }
 

@@ -25,9 +25,6 @@ cell-requires c κs = search needs
 set-requires : tie.Need-set-requires Inv-loop μ-loop
 set-requires c κs = search needs
 
-term-requires : tie.Need-term-requires Inv-loop μ-loop
-term-requires c κs = search needs
-
 rest-after-requires : tie.Need-rest-after-requires Inv-loop μ-loop
 rest-after-requires c κs = search needs
 
@@ -56,7 +53,6 @@ fill-type-spec =
     grade-requires
     cell-requires
     set-requires
-    term-requires
     rest-after-requires
     add-i
     loop-less

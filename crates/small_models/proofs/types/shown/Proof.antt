@@ -14,9 +14,6 @@ abbrev μ-loop : tie.MeasureT-loop
 loop-holds : tie.Need-loop-holds Inv-loop μ-loop
 loop-holds c = search needs
 
-term-requires : tie.Need-term-requires Inv-loop μ-loop
-term-requires c κs = search needs
-
 is-place-requires : tie.Need-is-place-requires Inv-loop μ-loop
 is-place-requires c κs = search needs
 
@@ -60,7 +57,6 @@ shown-spec =
     Inv-loop
     μ-loop
     loop-holds
-    term-requires
     is-place-requires
     cell-requires
     byte-requires
