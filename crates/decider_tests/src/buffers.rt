@@ -1,10 +1,16 @@
-// The buffers that the calls get, each longer than any call may write, and of A5 before; and what they hold afterwards.
+// Room for the input; the buffers that the calls get, each longer than any call may write, and of A5 before; and what they hold afterwards.
 ghost use mathlib.Core.Path.{_≡_};
 ghost use lib.ListN.{length};
 use reports::text;
 use std::num::wrapping_add_usize;
 
 const BEFORE: u8 = 0xA5;
+
+pub fn input() -> [u8; 131072]
+    ensures { λ r. ⌜ 131072 ≡ length r ⌝ }
+{
+    [0; 131072]
+}
 
 pub fn marks() -> [u8; 16448]
     ensures { λ r. ⌜ 16448 ≡ length r ⌝ }

@@ -99,7 +99,7 @@ fn run(book: &mut [u8], input: &[u8]) -> State {
 }
 
 fn main() {
-    let mut input = io::large_buffer();
+    let mut input = buffers::input();
     let mut book = io::buffer();
     let length = io::read_full(STDIN_FILENO, &mut input);
     let s = run(&mut book, &input[..length]);

@@ -91,6 +91,15 @@ pub fn names(b: &mut [u8], at: usize, count: u8) -> usize {
     next
 }
 
+// The names 0 up to `count` in turn, `times` times.
+pub fn names_in_turn(b: &mut [u8], at: usize, count: u8, times: u8) -> usize {
+    let mut next = at;
+    for _ in 0..times {
+        next = names(b, next, count);
+    }
+    next
+}
+
 // The same term, `count` times.
 pub fn terms(b: &mut [u8], at: usize, count: u8, kind: u8, x: u8, y: u8) -> usize {
     let mut next = at;

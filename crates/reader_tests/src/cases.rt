@@ -296,9 +296,9 @@ fn ranked_layout(mut t: Tally) -> Tally {
     )
 }
 
-// Check 6. Terms before it, kind, a, b; then byte, its value, length: a name that another term has.
-pub fn terms() -> Tally {
-    let t = run(
+// Check 6. Terms before it, kind, a, b.
+fn kinds() -> Tally {
+    run(
         begin(),
         Recipe::Term,
         b"
@@ -321,13 +321,40 @@ pub fn terms() -> Tally {
         63 7 0 0 -> 0 1;  63 7 1 0 -> 6;  63 7 0 1 -> 6
         0 8 0 0 -> 6;  1 8 0 0 -> 6;  63 8 0 0 -> 6;  0 255 0 0 -> 6
         ",
+    )
+}
+
+// A term after a name and "some r0" of it: name, kind, a, b. The same name is right and adds no place to these two, another name adds one; so does a
+// quantified term, also an equal one. What else check 6 asks it asks of a name that recurs too.
+fn after_names(t: Tally) -> Tally {
+    run(
+        t,
+        Recipe::AfterName,
+        b"
+        0 0 0 0 -> 0 4;  0 0 1 0 -> 0 8;  0 0 15 0 -> 0 8;  15 0 15 0 -> 0 4;  15 0 14 0 -> 0 8;  15 0 0 0 -> 0 8
+        0 0 0 1 -> 6;  0 0 0 255 -> 6;  15 0 15 1 -> 6;  0 0 16 0 -> 6;  16 0 0 0 -> 6;  16 0 16 0 -> 6;  3 8 3 0 -> 6
+        3 1 0 0 -> 0 4;  3 2 0 0 -> 0 4;  3 3 0 1 -> 0 4;  3 4 0 0 -> 0 8;  3 5 0 0 -> 0 8;  3 4 0 1 -> 0 8;  3 6 0 0 -> 0 4;  3 7 0 0 -> 0 4
+        ",
+    )
+}
+
+// In the sample, of either edition, byte, its value, length: the last term's name is 0, 4, 15, 16, and its b 1; the first's is 5, which the last has; the
+// second term is name 0. One name is one place wherever it stands: 3 candidates of one name, 9 of two.
+pub fn terms() -> Tally {
+    let t = run(
+        after_names(kinds()),
+        Recipe::Sample,
+        b"
+        25 4 37 -> 0 9;  25 0 37 -> 0 3;  19 5 37 -> 0 3;  21 0 37 -> 0 9
+        25 15 37 -> 0 9;  25 16 37 -> 6;  26 1 37 -> 6
+        ",
     );
     run(
         t,
-        Recipe::Sample,
+        Recipe::RankedSample,
         b"
-        25 4 37 -> 0 9;  25 0 37 -> 6;  19 5 37 -> 6;  21 0 37 -> 6
-        25 15 37 -> 0 9;  25 16 37 -> 6;  26 1 37 -> 6
+        29 4 45 -> 0 9;  29 0 45 -> 0 3;  23 5 45 -> 0 3;  25 0 45 -> 0 9
+        29 15 45 -> 0 9;  29 16 45 -> 6;  30 1 45 -> 6
         ",
     )
 }
@@ -500,9 +527,23 @@ pub fn pairs() -> Tally {
     )
 }
 
+// Check 10 where names recur, in either edition. N, names, terms "some" after them, how often the names come again, up to 64 terms in all; past that it
+// is check 4. Only the names and the terms "some" are places.
+fn repeated_candidates(mut t: Tally) -> Tally {
+    let table = b"
+        1 14 0 0 -> 0 16384;  1 14 0 1 -> 0 16384;  1 14 0 3 -> 0 16384;  1 15 0 1 -> 10;  1 15 0 3 -> 10;  1 16 0 3 -> 10
+        1 13 1 3 -> 0 16384;  1 14 1 3 -> 10;  1 13 2 1 -> 10;  1 1 13 50 -> 0 16384;  1 1 14 49 -> 10;  1 1 0 63 -> 0 2
+        8 4 0 15 -> 0 6561;  8 5 0 11 -> 10;  8 3 1 19 -> 0 6561;  8 4 1 13 -> 10;  8 1 3 60 -> 0 6561;  8 1 4 59 -> 10;  8 1 0 63 -> 0 9
+        2 8 0 7 -> 0 6561;  2 9 0 6 -> 10;  3 7 0 8 -> 0 16384;  3 8 0 7 -> 10
+        1 16 0 4 -> 4;  8 1 0 64 -> 4
+        ";
+    t = run(t, Recipe::Repeated, table);
+    run(t, Recipe::RankedRepeated, table)
+}
+
 // Check 10. N, names, terms "some", terms "all".
 pub fn candidates() -> Tally {
-    run(
+    let t = run(
         begin(),
         Recipe::Places,
         b"
@@ -518,7 +559,8 @@ pub fn candidates() -> Tally {
         8 1 2 1 -> 0 6561;  8 2 2 1 -> 10;  8 1 2 2 -> 10
         1 1 31 31 -> 10;  3 0 32 31 -> 10;  8 0 0 63 -> 10
         ",
-    )
+    );
+    repeated_candidates(t)
 }
 
 // Each fault alone, then with the next; 0 is none.

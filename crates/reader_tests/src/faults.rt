@@ -2,14 +2,14 @@
 use crate::books;
 use reports::text::set;
 
-// 14 names, not 0, a top; then a rule, a membership claim, a link claim and in edition 2 a pair, all of zeros.
+// 14 names, not 0, name 13 again; then a rule, a membership claim, a link claim and in edition 2 a pair, all of zeros.
 fn bodies(b: &mut [u8], start: usize) {
     let mut at = books::names(b, start, 14);
     at = books::term(b, at, 1, 0, 0);
-    books::term(b, at, 6, 0, 0);
+    books::term(b, at, 0, 13, 0);
 }
 
-// 76 bytes, N 1. From 18: names, at 60 not 0, at 63 a top; 66: a rule; 68: a membership claim; 72: a link claim.
+// 76 bytes, N 1. From 18: names, at 60 not 0, at 63 a name again; 66: a rule; 68: a membership claim; 72: a link claim.
 fn sound(b: &mut [u8]) {
     let at = books::head(b, 1, 16, 1, 1, 1);
     bodies(b, at);

@@ -14,6 +14,7 @@ use reports::text::cell;
 use reports::text::set;
 use reports::text::small;
 use std::num::wrapping_add_u8;
+use std::num::wrapping_sub_usize;
 
 // The answer that is expected of a row with too few or too many numbers: none.
 const NO_ANSWER: u8 = 98;
@@ -35,6 +36,9 @@ pub enum Recipe {
     RankedFaults,
     Set,
     RankedSet,
+    AfterName,
+    Repeated,
+    RankedRepeated,
 }
 
 // How many numbers of a row say what the book is. The expected answer follows: a number, and for 0 the candidates.
@@ -58,6 +62,9 @@ fn columns(recipe: Recipe) -> usize
         Recipe::RankedFaults => 2,
         Recipe::Set => 6,
         Recipe::RankedSet => 6,
+        Recipe::AfterName => 4,
+        Recipe::Repeated => 4,
+        Recipe::RankedRepeated => 4,
     }
 }
 
@@ -220,6 +227,40 @@ fn ranked_set_claim(
     books::pair(b, at, 0, upper)
 }
 
+// A name, "some r0" of it, and a term after them. N is 1.
+fn after_name(b: &mut [u8], name: u8, kind: u8, x: u8, y: u8) -> usize {
+    let mut at = books::head(b, 1, 3, 0, 0, 0);
+    at = books::term(b, at, 0, name, 0);
+    at = books::term(b, at, 4, 0, 0);
+    books::term(b, at, kind, x, y)
+}
+
+// So many names, so many terms "some r0" of the first, and the names again, so many times.
+fn names_around(b: &mut [u8], at: usize, names: u8, some: u8, again: u8) -> usize {
+    let mut next = books::names(b, at, names);
+    next = books::terms(b, next, some, 4, 0, 0);
+    books::names_in_turn(b, next, names, again)
+}
+
+// How many terms stand from `start` to `end`.
+fn terms_within(start: usize, end: usize) -> u8 {
+    (wrapping_sub_usize(end, start) / 3 % 256) as u8
+}
+
+// Names that recur: N, names, terms "some" after them, and how often the names come again.
+fn repeated(b: &mut [u8], steps: u8, names: u8, some: u8, again: u8) -> usize {
+    let end = names_around(b, 18, names, some, again);
+    books::head(b, steps, terms_within(18, end), 0, 0, 0);
+    end
+}
+
+// Edition 2: the same.
+fn ranked_repeated(b: &mut [u8], steps: u8, names: u8, some: u8, again: u8) -> usize {
+    let end = names_around(b, 22, names, some, again);
+    books::ranked_head(b, steps, terms_within(22, end), 0, 0, 0, 0);
+    end
+}
+
 // Writes the book and answers its length.
 fn make(b: &mut [u8], recipe: Recipe, r: Row) -> usize {
     let v = small(r, 0);
@@ -244,6 +285,9 @@ fn make(b: &mut [u8], recipe: Recipe, r: Row) -> usize {
         Recipe::RankedFaults => faults::make_ranked(b, v, w),
         Recipe::Set => set_claim(b, v, w, x, y, z, small(r, 5)),
         Recipe::RankedSet => ranked_set_claim(b, v, w, x, y, z, small(r, 5)),
+        Recipe::AfterName => after_name(b, v, w, x, y),
+        Recipe::Repeated => repeated(b, v, w, x, y),
+        Recipe::RankedRepeated => ranked_repeated(b, v, w, x, y),
     }
 }
 

@@ -1,6 +1,7 @@
 // Runs sheets, grades and links through the proved entry points, and compares the answers and grids with those written by hand.
 mod answers;
 mod cases;
+mod recurring;
 mod runs;
 
 use reports::tally;
@@ -19,5 +20,6 @@ fn main() {
     total = close(total, b"grades", cases::grades());
     total = close(total, b"links", cases::links());
     total = close(total, b"links under pairs", cases::links_under_pairs());
+    total = close(total, b"names that recur", recurring::cases());
     tally::print(b"total", total);
 }
