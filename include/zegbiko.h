@@ -31,6 +31,9 @@
  * member meets it; the empty set, 0, claims nothing. Outcome, marks, placement and written sheet are those of the book that has a single claim for
  * each member in its place, where that has room for them.
  *
+ * Names: a name, 0 to 15, may stand in any number of terms, which then have one grade, at every element and in every candidate. They
+ * are one place; each quantified term is a place of its own, also where two are equal. There are (N + 1) to the number of places candidates.
+ *
  * Words: N is the number of steps of the book's chain, byte 1 of the book; grades are 0 to N. The number of terms is in bytes 4 and 5. An
  * interpretation has one element or more, and gives names and links their grades. A type is a list of grades, one for each term; a
  * candidate is the number of a type. A survivor is a candidate whose mark is 1; the survivors are exactly the types that an element can
@@ -50,7 +53,7 @@ extern "C" {
 
 /* ---- The version, also that of the Rust wrapper and the manual page; docs/USING.md, "Versions", says what it promises */
 
-#define ZEGBIKO_VERSION "1.3.0"
+#define ZEGBIKO_VERSION "1.4.0"
 
 /* ---- Sizes in bytes; the buffers of these sizes suffice for every book */
 
@@ -122,7 +125,7 @@ static inline const char *zegbiko_refusal_text(uint8_t refusal) {
     case ZEGBIKO_REFUSED_COUNTS: return "a count of terms, rules, claims or pairs is above 64";
     case ZEGBIKO_REFUSED_LAYOUT: return "an offset or the length disagrees with the layout";
     case ZEGBIKO_REFUSED_TERMS:
-        return "a term has a kind above 7, an operand out of range or an unused byte other than 0, or a name stands in two terms";
+        return "a term has a kind above 7, an operand out of range or an unused byte other than 0";
     case ZEGBIKO_REFUSED_RULES: return "a rule names a term that the book does not have";
     case ZEGBIKO_REFUSED_MEMBERSHIP_CLAIMS: return "a membership claim is out of range, or its grade is above N";
     case ZEGBIKO_REFUSED_LINK_CLAIMS: return "a link claim is out of range, or its grade is above N";
@@ -246,8 +249,9 @@ zegbiko_worked zegbiko_work_out(const uint8_t *book, size_t book_length, const u
 /*
  * The grade of a term in a candidate, after 1 to 9, 22, 10, 20 and 21.
  *
- * A candidate gives each term a grade. Those of names and of "some" and "all" terms (the kinds 0, 4 and 5), in the terms' order, are
- * the digits of the candidate's number in base N + 1, lowest first; those of the other terms follow from their children's.
+ * A candidate gives each term a grade. Its places are each name, at the first term that has it, and each "some" or "all" term (the kinds 4
+ * and 5). The grades of the places, in the terms' order, are the digits of the candidate's number in base N + 1, lowest first. A later term
+ * of a name has the name's grade; the grades of the other terms follow from their children's.
  */
 zegbiko_graded zegbiko_grade(const uint8_t *book, size_t book_length, size_t candidate, size_t term);
 

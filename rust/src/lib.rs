@@ -14,6 +14,9 @@
 //! [`EACH_AT_MOST`]), and then says of each member what a claim on that one would say: outcome, list, placement and written
 //! sheet are the same. The empty set claims nothing.
 //!
+//! A name may stand in several terms, as in a book pasted from fragments. They have one grade, at every element and in every
+//! candidate, and add no candidates; two equal "some" or "all" terms do.
+//!
 //! No call keeps anything for a later one, so all may be made from several threads at once. None uses the heap, but for
 //! [`Decision::of`] and [`ImpliedRules::of`]. [`decide`], [`write_sheet`] and [`implied_rules`] need some 1.2 MB of stack: a
 //! thread with Rust's default of 2 MB suffices, one of 1 MB does not. The others need a few KB. Deciding most books takes
@@ -64,7 +67,7 @@ use std::error::Error;
 use std::fmt;
 
 /// The version, of header, wrapper and manual page alike; `docs/USING.md`, "Versions", says what it promises.
-pub const VERSION: &str = "1.3.0";
+pub const VERSION: &str = "1.4.0";
 /// The bytes of the shortest book; of edition 2 it has 22.
 pub const BOOK_LEAST: usize = 18;
 /// The bytes of the longest book, which is of edition 2; of edition 1 it has 850.
@@ -162,8 +165,8 @@ refusals! {
         "do the offsets and the length agree with the layout?",
         "an offset or the length disagrees with the layout";
     Terms = 6,
-        "is every term as described, and does no name stand twice?",
-        "a term has a kind above 7, an operand out of range or an unused byte other than 0, or a name stands in two terms";
+        "is every term as described?",
+        "a term has a kind above 7, an operand out of range or an unused byte other than 0";
     Rules = 7,
         "does every rule name two terms?",
         "a rule names a term that the book does not have";
@@ -540,8 +543,9 @@ pub fn work_out(book: &[u8], sheet: &[u8], grid: &mut [u8]) -> Result<Verdict, R
 
 /// The grade of a term in a candidate; refused with 1 to 9, 22, 10, 20 and 21.
 ///
-/// A candidate gives each term a grade. Those of names and of "some" and "all" terms (the kinds 0, 4 and 5), in the terms'
-/// order, are the digits of the candidate's number in base N + 1, lowest first; those of the other terms follow from their
+/// A candidate gives each term a grade. Its places are each name, at the first term that has it, and each "some" or "all"
+/// term (the kinds 4 and 5). The grades of the places, in the terms' order, are the digits of the candidate's number in base
+/// N + 1, lowest first. A later term of a name has the name's grade; the grades of the other terms follow from their
 /// children's.
 pub fn grade(book: &[u8], candidate: usize, term: usize) -> Result<u8, Refusal> {
     // SAFETY: see `check`.

@@ -236,7 +236,6 @@ fn mistakes() -> Vec<(u8, &'static str, u8)> {
             assert_eq!(name, draft(|book| book.terms[2] = [NOT, 0, 1]));
             name
         }),
-        (6, "a name that stands in two terms", draft(|book| book.terms.push([NAME, 0, 0]))),
         (6, "a role above 7 or a name above 15", {
             let role = draft(|book| book.terms[3] = [SOME, 8, 1]);
             assert_eq!(role, draft(|book| book.terms[0] = [NAME, 16, 0]));
@@ -499,6 +498,10 @@ fn unseen_mistakes_are_accepted() {
             vec![with(|book| (book.terms[0], book.rules[0]) = ([NAME, 5, 0], [5, 1]))],
         ),
         (
+            "one number for two names, as where fragments are pasted together that are each numbered from 0: the two are then one name",
+            vec![with(|book| book.terms[1] = [NAME, 0, 0])],
+        ),
+        (
             "terms numbered from 1 throughout, where that still gives terms of the book and earlier children",
             vec![with(|book| {
                 book.terms[2..].copy_from_slice(&[[NOT, 1, 0], [SOME, 0, 2], [ALL, 1, 3], [AND, 3, 4]]);
@@ -524,6 +527,12 @@ fn unseen_mistakes_are_accepted() {
         zegbiko::Decision::of(&book.bytes()).map(|decision| decision.placed().len())
     };
     assert_eq!([placed([6, 0, 0, 1]), placed([6, 0, 2, 1])], [Ok(7), Ok(3)]); // individuals 0 to 6, and 0 to 2
+
+    let places_of = |second: u8| {
+        let book = with(|book| book.terms[1] = [NAME, second, 0]).bytes();
+        zegbiko::ImpliedRules::of(&book).map(|implied| (zegbiko::count(&book), implied.agree(0, 1)))
+    };
+    assert_eq!([places_of(1), places_of(0)], [Ok((Ok(625), false)), Ok((Ok(125), true))]); // four places, and three
 
     let on_pairs = [
         ("lower and upper role of a pair exchanged", [[0, 1]], [[1, 0]]),
