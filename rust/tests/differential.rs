@@ -1,11 +1,13 @@
 //! Every call of the library against the plain implementation, on seeded books and sheets. A case has a book of each
-//! edition; one case in four has also one for the table of implied rules.
+//! edition; one case in sixteen has also one for the table of implied rules.
 //!
 //! `ZEGBIKO_SEED` gives another seed, `ZEGBIKO_CASES` another number of cases; `ZEGBIKO_CASE` runs that one alone.
 
 mod compared;
 mod generate;
 mod plain;
+// Of this the other tests use what is left unused here.
+#[allow(dead_code)]
 mod support;
 
 use std::collections::BTreeSet;
@@ -25,7 +27,7 @@ use plain::placement::Decision;
 use plain::Plain;
 use support::buffer::Buffer;
 use support::calls::{Answer, Call};
-use support::draft::{is_set, Draft, AT_LEAST, AT_MOST, EACH_AT_LEAST, EACH_AT_MOST};
+use support::draft::{is_set, Draft, ALL, AND, AT_LEAST, AT_MOST, EACH_AT_LEAST, EACH_AT_MOST, NAME, NOT, OR, SOME};
 
 const SEED: u64 = 1;
 const CASES: u64 = 60_000;
@@ -79,7 +81,9 @@ fn library_and_plain_implementation_agree() {
 }
 
 fn tally() -> Tally {
-    Tally::demanding(&[("refusal", 1..=23), ("outcome", 1..=3), ("verdict", 0..=4)])
+    let mut tally = Tally::demanding(&[("refusal", 1..=23), ("outcome", 1..=3), ("verdict", 0..=4)]);
+    (0..=4).for_each(|verdict| tally.add(&format!("verdict {verdict:2} where a name recurs"), false));
+    tally
 }
 
 fn name(seed: u64, (sort, ..): Sort, number: u64) -> String {
@@ -108,6 +112,7 @@ impl Case<'_> {
         let mut case = Case { name: name(seed, sort, number), random, book, plain, tally };
         case.note_the_book();
         case.note_the_sets();
+        case.note_the_names();
         case.compare(Call::Check, &[]);
         case.compare(Call::Count, &[]);
         case.compare_candidates();
@@ -128,7 +133,7 @@ impl Case<'_> {
             note(&format!("accepted, edition {edition}, of {n:3} bytes"), first == Some(edition) && length == n)
         });
         (1..=8).for_each(|steps| note(&format!("accepted, N {steps}"), book.steps == steps));
-        note("accepted, a gap in the names", names(book).len() < book.names());
+        note("accepted, a gap in the names", book.distinct_names().len() < book.names());
         note("accepted, three roles or more in terms", roles(book).len() >= 3);
         note("accepted, an individual that no claim mentions", individuals(book).len() < book.individuals());
         if first == Some(2) {
@@ -221,6 +226,84 @@ impl Case<'_> {
         note("an individual above 7", &|claim| claim[0] > 7 && [AT_LEAST, AT_MOST].contains(&claim[2]));
         note("a wrong term in an empty set", &|claim| empty(claim) && usize::from(claim[1]) >= book.terms.len());
         note("a wrong grade in an empty set", &|claim| empty(claim) && claim[3] > book.steps);
+    }
+
+    /// Likewise, for names that recur.
+    fn note_the_names(&mut self) {
+        let Ok(book) = self.plain.book() else { return };
+        let mut note = |name: &str, seen| self.tally.add(&format!("books accepted, {name}"), seen);
+        let recurs = Draft::of(&self.book).recurs();
+        note("names, of which none recurs", !recurs && book.names() > 0);
+        (1..=2).for_each(|n| note(&format!("edition {n}, a name recurs"), recurs && self.book[0] == n));
+        if recurs {
+            self.note_where_names_recur();
+            self.note_who_uses_repeats();
+            self.note_what_repeats_do();
+        }
+    }
+
+    fn note_where_names_recur(&mut self) {
+        let mut note = |name: &str, seen| self.tally.add(&format!("books accepted, {name}"), seen);
+        let book = Draft::of(&self.book);
+        let repeats = |number: &usize| book.repeats(*number);
+        let names: Vec<[u8; 3]> = book.terms.iter().filter(|term| term[0] == NAME).copied().collect();
+        let most = names.iter().map(|name| names.iter().filter(|other| *other == name).count()).max();
+        note("a name in  2 terms and none in more", most == Some(2));
+        [4, 16, 60].iter().for_each(|&n| note(&format!("a name in {n} terms or more"), most >= Some(n)));
+        let distinct: BTreeSet<[u8; 3]> = names.into_iter().collect();
+        note("16 names in 64 terms", distinct.len() == 16 && book.terms.len() == 64);
+        let first = |number: usize| book.terms.iter().position(|term| *term == book.terms[number]).expect("itself");
+        let around = |number| book.terms[first(number)..number].iter().any(is_quantified);
+        note("a name before and after a quantified term", (0..book.terms.len()).filter(repeats).any(around));
+        let behind = (0..book.terms.len()).skip_while(|number| !repeats(number));
+        let is_place =
+            |number: usize| is_quantified(&book.terms[number]) || book.terms[number][0] == NAME && !repeats(&number);
+        note("a place behind a repeated name", behind.into_iter().any(is_place));
+        note("a repeated name as the last term", repeats(&(book.terms.len() - 1)));
+    }
+
+    fn note_who_uses_repeats(&mut self) {
+        let mut note = |name: &str, seen| self.tally.add(&format!("books accepted, {name}"), seen);
+        let book = Draft::of(&self.book);
+        let repeats = |number: u8| book.repeats(number.into());
+        let terms =
+            |kinds: &[u8]| book.terms.iter().filter(|term| kinds.contains(&term[0])).copied().collect::<Vec<_>>();
+        note("\"not\" of a repeated name", terms(&[NOT]).iter().any(|term| repeats(term[1])));
+        note(
+            "\"and\" or \"or\" of a repeated name",
+            terms(&[AND, OR]).iter().any(|term| repeats(term[1]) || repeats(term[2])),
+        );
+        note("a quantified term over a repeated name", terms(&[SOME, ALL]).iter().any(|term| repeats(term[2])));
+        note("a rule on a repeated name", book.rules.iter().flatten().any(|&number| repeats(number)));
+        let between = |&[left, right]: &[u8; 2]| {
+            let [one, other] = [left, right].map(|number| book.terms[usize::from(number)]);
+            left != right && one == other && one[0] == NAME
+        };
+        note("a rule between two terms of one name", book.rules.iter().any(between));
+        note("a claim on a repeated name", book.memberships.iter().any(|claim| repeats(claim[1])));
+    }
+
+    fn note_what_repeats_do(&mut self) {
+        let mut note = |name: &str, seen| self.tally.add(&format!("books in which a name recurs, {name}"), seen);
+        let Ok(book) = self.plain.book() else { unreachable!("accepted") };
+        let grades = usize::from(book.steps) + 1;
+        let quantified = book.terms.iter().filter(|term| matches!(term, Term::Some(..) | Term::All(..))).count();
+        let names = book.terms.iter().filter(|term| matches!(term, Term::Name(_))).count();
+        let all_places = grades.checked_pow((names + quantified) as u32);
+        let one_fewer = grades.checked_pow((book.distinct_names().len() + quantified - 1) as u32);
+        let too_wide = self.plain.count() == Err(10);
+        note("refused 10 for one place", too_wide && one_fewer.is_some_and(|count| count <= 16_384));
+        note("refused 10 for more places", too_wide && one_fewer.is_none_or(|count| count > 16_384));
+        if let Ok(count) = self.plain.count() {
+            note("of 16,384 candidates", count == 16_384);
+            note("of as many places as are accepted", count * grades > 16_384);
+            note("of more terms of kinds 0, 4 and 5 than that", all_places.is_none_or(|count| count > 16_384));
+        }
+        if let Ok(decision) = self.plain.decision() {
+            note("of outcome 1", matches!(decision, Decision::HoldsTogether(_)));
+            note("of outcome 2", matches!(decision, Decision::ClaimsFail));
+            note("of outcome 3", matches!(decision, Decision::NoModel));
+        }
     }
 
     fn compare_candidates(&mut self) {
@@ -356,6 +439,7 @@ impl Case<'_> {
         note("of 64 terms, ones and zeros a thousand each", terms == 64 && (1000..3096).contains(&ones));
         let fails = matches!(self.plain.decision(), Ok(Decision::ClaimsFail));
         note("of outcome 2, ones and zeros", fails && ones < table.len());
+        note("of a book in which a name recurs, ones and zeros", Draft::of(&self.book).recurs() && ones < table.len());
         if !(3..=200).contains(&rows.len()) || terms > 32 {
             return;
         }
@@ -385,6 +469,9 @@ impl Case<'_> {
         let terms = self.plain.book().map_or(0, |book| book.terms.len());
         let grid = self.near(elements * terms);
         let (answer, _) = self.compare(Call::WorkOut { grid }, sheet);
+        if let [0, verdict, ..] = answer {
+            self.tally.add(&format!("verdict {verdict:2} where a name recurs"), Draft::of(&self.book).recurs());
+        }
         if let [0, 2, claim, ..] = answer {
             self.note_the_broken_claim(sheet, claim);
         }
@@ -434,9 +521,8 @@ impl Case<'_> {
     }
 }
 
-fn names(book: &Book) -> BTreeSet<u8> {
-    let name = |term: &Term| if let Term::Name(name) = *term { Some(name) } else { None };
-    book.terms.iter().filter_map(name).collect()
+fn is_quantified(term: &[u8; 3]) -> bool {
+    [SOME, ALL].contains(&term[0])
 }
 
 fn roles(book: &Book) -> BTreeSet<u8> {

@@ -74,5 +74,5 @@ fn a_model_that_fits_on_a_sheet() {
     let hard: Vec<usize> = hard().iter().map(|book| elements(&program, book)).collect();
     println!("{SEEDED} seeded books that are refused 18: {seeded:?} elements at most; of edition 2: {ranked:?}");
     println!("{} books of the benchmark: {:?} elements at most", hard.len(), hard.iter().max());
-    assert_eq!((seeded, ranked, hard.iter().max()), (Some(7), Some(7), Some(&13)), "as docs/USING.md says");
+    assert_eq!((seeded, ranked, hard.iter().max()), (Some(5), Some(5), Some(&13)), "as docs/USING.md says");
 }

@@ -26,7 +26,7 @@ use support::draft::{is_set, Draft};
 
 const SEED: u64 = 2;
 /// So many books are drawn of each edition; about one in three is accepted, has sets, and fits when written out.
-const DRAWN: u64 = 20_000;
+const DRAWN: u64 = 16_000;
 
 #[test]
 fn edition_1() {
@@ -150,7 +150,8 @@ impl Both {
     /// with sets. But for the number of a broken claim they must be the same.
     fn call(&mut self, sheet: &[u8], call: Call) -> (Answer, Vec<Buffer>) {
         let held: Vec<_> = call.lengths().into_iter().map(|length| self.random.bytes(length)).collect();
-        let [with_sets, written_out] = [0, 1].map(|which| self.ask(which, sheet, call, &held));
+        let [with_sets, written_out] =
+            [0, 1].map(|which| calls::on_every_side(&self.books[which], &self.plain[which], sheet, call, &held));
         for ((answer, buffers), (other, others)) in with_sets.iter().zip(&written_out) {
             let mut expected = *other;
             if let (Call::WorkOut { .. }, [0, 2, claim, ..]) = (call, other) {
@@ -160,20 +161,5 @@ impl Both {
             assert!(*answer == expected && same, "{call:?}: {answer:?}, {other:?}\n{:02X?}\n{sheet:02X?}", self.books);
         }
         with_sets.into_iter().next().expect("a side")
-    }
-
-    /// What each side answers and leaves on one of the books.
-    fn ask(&self, which: usize, sheet: &[u8], call: Call, held: &[Vec<u8>]) -> [(Answer, Vec<Buffer>); 3] {
-        let (book, plain) = (&self.books[which], &self.plain[which]);
-        type Side<'a> = &'a dyn Fn(&mut [Buffer]) -> Answer;
-        let sides: [Side; 3] = [
-            &|buffers| calls::plain(plain, sheet, call, buffers),
-            &|buffers| calls::wrapped(book, sheet, call, buffers),
-            &|buffers| calls::raw(book, sheet, call, buffers),
-        ];
-        sides.map(|side| {
-            let mut buffers: Vec<_> = held.iter().map(|bytes| Buffer::new(bytes, 0)).collect();
-            (side(&mut buffers), buffers)
-        })
     }
 }

@@ -13,6 +13,7 @@ mod support;
 use std::collections::BTreeSet;
 
 use generate::random::Random;
+use generate::repeats;
 use plain::book::{Book, Grade};
 use plain::grades::{Interpretation, Verdict};
 use plain::placement::Decision;
@@ -22,7 +23,7 @@ use support::draft::{is_set, Draft, ALL, BOTTOM, EACH_AT_LEAST, NAME, NOT, SOME,
 const BOOKS: u64 = 60;
 
 /// One name, a few quantified terms of two roles or three, rules and claims, and pairs in four of five. Half of the
-/// membership claims are on a set of two individuals, of one or of none.
+/// membership claims are on a set of two individuals, of one or of none. In half of the books the name recurs.
 fn drawn(random: &mut Random) -> Draft {
     let steps = random.pick(&[1, 1, 1, 1, 2]);
     let roles = if steps == 1 { 3 } else { 2 };
@@ -48,6 +49,10 @@ fn drawn(random: &mut Random) -> Draft {
         if random.one_in(2) {
             *claim = [random.up_to(3), claim[1], claim[2] + EACH_AT_LEAST, claim[3]];
         }
+    }
+    if random.one_in(2) {
+        let more = 1 + random.below(3);
+        repeats::add(random, &mut book, more);
     }
     book
 }
@@ -82,7 +87,7 @@ fn told_apart<'a>(terms: usize, rows: impl IntoIterator<Item = &'a Vec<Grade>>) 
 #[test]
 fn types_and_outcomes() {
     let (mut tried, mut equal, mut outcomes, mut by_pairs, mut with_sets) = (0, 0, [0; 3], 0, [0; 3]);
-    let (mut implied, mut not_implied, mut shown) = (0, 0, 0);
+    let (mut implied, mut not_implied, mut shown, mut recurring) = (0, 0, 0, [0; 3]);
     for case in 0..BOOKS {
         let draft = drawn(&mut Random::of(1, case));
         let plain = Plain::open(&draft.bytes());
@@ -114,24 +119,21 @@ fn types_and_outcomes() {
         not_implied += zeros.len();
         implied += table.len() - zeros.len();
         shown += broken.len();
-        match plain.decision().expect("few") {
+        let outcome = match plain.decision().expect("few") {
             Decision::HoldsTogether(places) => {
                 // What is listed occurs, and the book is met: in the model.
                 let model = book.model(survivors, places);
                 let rows = book.rows(&model);
                 assert!(rows.iter().eq(survivors.values()), "{draft:?}");
                 assert!(matches!(book.verdict(&model, &rows), Verdict::Meets), "{draft:?}");
-                outcomes[0] += 1;
+                0
             }
-            Decision::ClaimsFail => {
-                assert!(!held, "{draft:?}");
-                outcomes[1] += 1;
-            }
-            Decision::NoModel => {
-                assert!(!held, "{draft:?}");
-                outcomes[2] += 1;
-            }
-        }
+            Decision::ClaimsFail => 1,
+            Decision::NoModel => 2,
+        };
+        assert!(!held || outcome == 0, "{draft:?}");
+        outcomes[outcome] += 1;
+        recurring[outcome] += usize::from(draft.recurs());
         for (members, books) in (0..).zip(&mut with_sets) {
             let is_such = |claim: &[u8; 4]| is_set(claim) && claim[0].count_ones() == members;
             *books += usize::from(draft.memberships.iter().any(is_such));
@@ -144,6 +146,8 @@ fn types_and_outcomes() {
     );
     println!("{implied} rules are implied, {not_implied} are not, {shown} of these by two elements or one");
     println!("in {equal} books every type occurs with two elements or one; sets of 0 to 2 are in {with_sets:?}");
-    assert!(outcomes.iter().chain(&with_sets).all(|&count| count > 0) && by_pairs > 0 && equal > 0);
+    println!("a name recurs in {recurring:?} books of outcomes 1 to 3");
+    let each = outcomes.iter().chain(&with_sets).chain(&recurring);
+    assert!(each.into_iter().all(|&count| count > 0) && by_pairs > 0 && equal > 0);
     assert!(implied > 0 && shown > 0);
 }

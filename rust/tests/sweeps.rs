@@ -81,6 +81,16 @@ const RANKED: &str = "
     00 01  01 03  03 02  04 04
 ";
 
+/// A name in terms before and behind a quantified one, and another name behind those. N is 2. A rule, a claim and "not" are on
+/// the repeated term, a rule and a claim on a set on others. Some interpretations break each rule and each claim.
+const PASTED: &str = "
+    01 02  00 12 00 05  00 21 00 02  00 25 00 02  00 2D 00 01
+    00 00 00  04 00 00  00 00 00  00 01 00  01 02 00
+    02 01  04 03
+    00 02 00 01  03 00 02 01
+    00 00 01 01
+";
+
 fn from_hex(text: &str) -> Vec<u8> {
     let byte = |digits| u8::from_str_radix(digits, 16).expect("two hexadecimal digits");
     text.split_whitespace().map(byte).collect()
@@ -104,10 +114,14 @@ impl Sweep {
         let plain = Plain::open(book);
         self.call(book, &plain, &[], Call::Check);
         if let Some(marks) = plain.count().ok().filter(|&count| count <= FEW) {
-            let sets = Draft::of(book).memberships.iter().any(is_set);
+            let draft = Draft::of(book);
+            let sets = draft.memberships.iter().any(is_set);
             let ([_, outcome, ..], _) =
                 self.call(book, &plain, &[], Call::Decide { marks, placement: zegbiko::PLACEMENT });
-            (1..=3).for_each(|n| self.tally.add(&format!("outcome  {n} with sets"), sets && outcome == n));
+            for n in 1..=3 {
+                self.tally.add(&format!("outcome  {n} with sets"), sets && outcome == n);
+                self.tally.add(&format!("outcome  {n} where a name recurs"), draft.recurs() && outcome == n);
+            }
         }
         let marks = plain.count().ok().filter(|&count| count <= FEW).unwrap_or(0);
         let table = plain.book().map_or(0, |book| book.terms.len().pow(2));
@@ -162,7 +176,7 @@ fn changed(bytes: &[u8]) -> impl Iterator<Item = Vec<u8>> + '_ {
 fn books() {
     let refusals = [("refusal", 1..=11), ("refusal", 22..=23), ("outcome", 1..=3)];
     let mut sweep = Sweep::begin(0, Tally::demanding(&refusals));
-    for book in [PRINTED, SETS, LARGER, RANKED].map(from_hex) {
+    for book in [PRINTED, SETS, LARGER, RANKED, PASTED].map(from_hex) {
         for edition in 0..=3 {
             let book = [&[edition], &book[1..]].concat();
             for book in cut_and_extended(&book, zegbiko::BOOK_MOST + 1) {
@@ -267,7 +281,7 @@ fn drawn(random: &mut Random, edition: u8) -> Vec<u8> {
 #[test]
 fn sheets() {
     let mut sweep = Sweep::begin(1, Tally::demanding(&[("refusal", 13..=16), ("verdict", 0..=4)]));
-    for book in [PRINTED, FOUR_DEEP, LARGER, RANKED].map(from_hex) {
+    for book in [PRINTED, FOUR_DEEP, LARGER, RANKED, PASTED].map(from_hex) {
         let plain = Plain::open(&book);
         let read = plain.book().expect("a right book");
         for elements in 1..=4 {

@@ -4,16 +4,18 @@ use std::collections::BTreeSet;
 
 use super::damage::{damaged, damaged_by_edition};
 use super::random::Random;
-use super::sets;
+use super::{repeats, sets};
 use crate::support::draft::{Draft, ALL, AND, BOTTOM, NAME, NOT, OR, SOME, TOP};
 
 const MOST_CANDIDATES: usize = 16_384;
 
 /// Any book of edition 1: one in four damaged, the others right but for those past a limit. Half of them have claims on
-/// sets of individuals.
+/// sets of individuals; in about one of four a name recurs.
 pub fn any(random: &mut Random) -> Vec<u8> {
     let book = match random.below(200) {
-        0..=74 => mixed(random),
+        0..=62 => mixed(random),
+        63..=72 => repeats::pasted(random),
+        73..=74 => repeats::of_all_names(random),
         75..=89 => web(random),
         90..=99 => chain(random),
         100..=109 => counter(random),
@@ -29,18 +31,26 @@ pub fn any(random: &mut Random) -> Vec<u8> {
         }
         _ => {
             let book = random.pick(&[mixed, mixed, chain, full])(random);
-            let book = sets::mixed_in(random, book);
+            let book = with_more(random, book);
             return damaged(random, book.bytes());
         }
     };
-    sets::mixed_in(random, book).bytes()
+    with_more(random, book).bytes()
+}
+
+/// The book as it is, or with names that recur, claims on sets, or both.
+pub(super) fn with_more(random: &mut Random, book: Draft) -> Draft {
+    let book = repeats::mixed_in(random, book);
+    sets::mixed_in(random, book)
 }
 
 /// Any book of edition 2, likewise.
 pub fn ranked(random: &mut Random) -> Vec<u8> {
     let book = match random.below(200) {
         0..=24 => with_pairs(random, mixed),
-        25..=69 => with_pairs(random, layered),
+        25..=59 => with_pairs(random, layered),
+        60..=67 => with_pairs(random, repeats::pasted),
+        68..=69 => with_pairs(random, repeats::of_all_names),
         70..=84 => with_pairs(random, web),
         85..=94 => with_pairs(random, chain),
         95..=104 => with_pairs(random, counter),
@@ -58,11 +68,11 @@ pub fn ranked(random: &mut Random) -> Vec<u8> {
         _ => {
             let book = random.pick(&[mixed, mixed, chain, full]);
             let book = with_pairs(random, book);
-            let book = sets::mixed_in(random, book);
+            let book = with_more(random, book);
             return damaged_by_edition(random, book.bytes());
         }
     };
-    sets::mixed_in(random, book).bytes()
+    with_more(random, book).bytes()
 }
 
 pub(super) fn steps(random: &mut Random) -> u8 {
@@ -106,7 +116,7 @@ pub(super) fn add_place(random: &mut Random, book: &mut Draft, roles: &[u8]) -> 
     }
 }
 
-fn add_connective(random: &mut Random, book: &mut Draft) {
+pub(super) fn add_connective(random: &mut Random, book: &mut Draft) {
     let kind = random.pick(&[NOT, NOT, AND, OR, TOP, BOTTOM]);
     match kind {
         NOT if !book.terms.is_empty() => book.term(NOT, child(random, book), 0),
@@ -116,7 +126,7 @@ fn add_connective(random: &mut Random, book: &mut Draft) {
 }
 
 /// Any term, or, as often, the last.
-fn child(random: &mut Random, book: &Draft) -> u8 {
+pub(super) fn child(random: &mut Random, book: &Draft) -> u8 {
     let last = book.terms.len() as u8 - 1;
     if random.one_in(2) {
         last
@@ -275,7 +285,7 @@ fn widest(random: &mut Random) -> Draft {
     let mut book = Draft::new(random.pick(&[1, 1, 1, 3, 3, 3, 2, 4, 5, 6, 7, 8]));
     let places = places_within(book.steps, MOST_CANDIDATES);
     if random.one_in(3) {
-        book.terms = (0..places as u8).map(|name| [NAME, name, 0]).collect();
+        add_names(random, &mut book, places);
         return book;
     }
     let (bottom, top) = (book.term(BOTTOM, 0, 0), book.term(TOP, 0, 0));
@@ -289,10 +299,23 @@ fn widest(random: &mut Random) -> Draft {
     book
 }
 
-/// A place more than is accepted, or several.
+/// So many names; in half of the books they stand in as many terms as there can be.
+fn add_names(random: &mut Random, book: &mut Draft, names: usize) {
+    book.terms = (0..names as u8).map(|name| [NAME, name, 0]).collect();
+    if random.one_in(2) {
+        repeats::add(random, book, 64);
+    }
+}
+
+/// A place more than is accepted, or several; where there are names for all of them, in one of three books these are names.
 fn too_wide(random: &mut Random) -> Draft {
     let mut book = Draft::new(steps(random));
-    for _ in 0..places_within(book.steps, MOST_CANDIDATES) + random.pick(&[1, 1, 1, 2, 50]) {
+    let places = places_within(book.steps, MOST_CANDIDATES) + random.pick(&[1, 1, 1, 2, 50]);
+    if places <= 16 && random.one_in(3) {
+        add_names(random, &mut book, places);
+        return book;
+    }
+    for _ in 0..places {
         add_place(random, &mut book, &[0, 1]);
     }
     book
@@ -350,7 +373,7 @@ fn some_roles(random: &mut Random) -> Vec<u8> {
     roles
 }
 
-fn in_any_order(random: &mut Random, items: impl IntoIterator<Item = u8>) -> Vec<u8> {
+pub(super) fn in_any_order(random: &mut Random, items: impl IntoIterator<Item = u8>) -> Vec<u8> {
     let mut left: Vec<u8> = items.into_iter().collect();
     (0..left.len()).map(|_| left.swap_remove(random.below(left.len()))).collect()
 }

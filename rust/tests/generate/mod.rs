@@ -3,6 +3,7 @@
 pub mod books;
 pub mod damage;
 pub mod random;
+pub mod repeats;
 pub mod sets;
 pub mod sheets;
 pub mod tables;

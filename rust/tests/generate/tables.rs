@@ -1,12 +1,13 @@
 //! Books for the table of implied rules: of many terms that are no places, so that many pairs of terms keep one order; such
 //! in which a single type tells two terms apart; with one survivor, and with none; of no terms, and of 64.
 
-use super::books::{add_claims, add_place, add_rules, any_term, layered, mixed, places_within, steps, with_pairs};
+use super::books::{
+    add_claims, add_place, add_rules, any_term, layered, mixed, places_within, steps, with_more, with_pairs,
+};
 use super::random::Random;
-use super::sets;
 use crate::support::draft::{Draft, ALL, AND, BOTTOM, NAME, NOT, OR, SOME, TOP};
 
-/// Any such book, of either edition. Half of them have claims on sets of individuals.
+/// Any such book, of either edition. Half of them have claims on sets of individuals; in about one of four a name recurs.
 pub fn any(random: &mut Random) -> Vec<u8> {
     let mut book = match random.below(16) {
         0..=4 => nested(random),
@@ -19,7 +20,7 @@ pub fn any(random: &mut Random) -> Vec<u8> {
     if book.pairs.is_none() && random.one_in(2) {
         book.pairs = Some(Vec::new());
     }
-    sets::mixed_in(random, book).bytes()
+    with_more(random, book).bytes()
 }
 
 /// Adds "and", "or" and a few others over any terms, up to a number of terms.

@@ -85,7 +85,6 @@ impl Book {
 
         let terms = section(0).enumerate().map(|(number, record)| term(number, record));
         let terms: Vec<Term> = terms.collect::<Option<_>>().ok_or(6)?;
-        ask(6, no_name_twice(&terms))?;
         let rules = section(1).map(|record| rule(terms.len(), record));
         let rules = rules.collect::<Option<_>>().ok_or(7)?;
         let memberships = section(2).map(|record| membership(steps, terms.len(), record));
@@ -99,12 +98,15 @@ impl Book {
         Ok(Book { steps, terms, rules, memberships, links, pairs, upward })
     }
 
+    /// The name numbers in terms.
+    pub fn distinct_names(&self) -> BTreeSet<u8> {
+        let name = |term: &Term| if let Term::Name(name) = *term { Some(name) } else { None };
+        self.terms.iter().filter_map(name).collect()
+    }
+
     /// A: one more than the highest name number, or 0.
     pub fn names(&self) -> usize {
-        one_more_than_highest(self.terms.iter().filter_map(|term| match *term {
-            Term::Name(name) => Some(usize::from(name)),
-            _ => None,
-        }))
+        one_more_than_highest(self.distinct_names().into_iter().map(usize::from))
     }
 
     /// R: one more than the highest role number in terms, claims and pairs, or 0.
@@ -154,14 +156,6 @@ fn term(number: usize, record: &[u8]) -> Option<Term> {
         [7, 0, 0] => Some(Term::Bottom),
         _ => None,
     }
-}
-
-fn no_name_twice(terms: &[Term]) -> bool {
-    let mut seen = BTreeSet::new();
-    terms.iter().all(|term| match *term {
-        Term::Name(name) => seen.insert(name),
-        _ => true,
-    })
 }
 
 fn rule(terms: usize, record: &[u8]) -> Option<Rule> {

@@ -1,27 +1,33 @@
-//! "Types and links": places, candidates, their types, and the link between two types.
+//! "Types and links", and P5, "A name may recur": places, candidates, their types, and the link between two types.
 
 use super::book::{Book, Grade, Term};
 
 impl Book {
-    /// The number of candidates, if it is at most 16,384.
+    /// The number of candidates, if it is at most 16,384. "A place is now a distinct name number .. or a quantified term."
     pub fn candidates(&self) -> Option<usize> {
-        let places = self.terms.iter().filter(|term| is_place(**term)).count();
+        let quantified = self.terms.iter().filter(|term| matches!(term, Term::Some(..) | Term::All(..)));
+        let places = self.distinct_names().len() + quantified.count();
         let count = (usize::from(self.steps) + 1).checked_pow(places as u32)?;
         (count <= 16_384).then_some(count)
     }
 
-    /// The grades of all terms in a candidate: its digits at the places, lowest first, and what follows at the others.
+    /// The grades of all terms in a candidate: its digits at the places, lowest first, and what follows at the others. A
+    /// name's place is "at its first term", and "the grades of all terms with one name agree".
     pub fn type_of(&self, candidate: usize) -> Vec<Grade> {
         let base = usize::from(self.steps) + 1;
         let mut digits = candidate;
+        let mut next_digit = || {
+            let digit = digits % base;
+            digits /= base;
+            digit as Grade
+        };
+        let mut of_names = [None; 16];
         let mut row = Vec::new();
         for term in &self.terms {
-            let grade = if is_place(*term) {
-                let digit = digits % base;
-                digits /= base;
-                digit as Grade
-            } else {
-                self.connective(*term, &row)
+            let grade = match *term {
+                Term::Name(name) => *of_names[usize::from(name)].get_or_insert_with(&mut next_digit),
+                Term::Some(..) | Term::All(..) => next_digit(),
+                _ => self.connective(*term, &row),
             };
             row.push(grade);
         }
@@ -46,8 +52,4 @@ impl Book {
             _ => true,
         })
     }
-}
-
-fn is_place(term: Term) -> bool {
-    matches!(term, Term::Name(_) | Term::Some(..) | Term::All(..))
 }

@@ -51,7 +51,7 @@ impl Book {
         }
     }
 
-    /// The grade of a term that is no place, from the row of grades before it.
+    /// The grade of a term that is neither a name nor quantified, from the row of grades before it.
     pub fn connective(&self, term: Term, row: &[Grade]) -> Grade {
         match term {
             Term::Not(child) => self.steps - row[child],
@@ -59,7 +59,7 @@ impl Book {
             Term::Or(a, b) => row[a].max(row[b]),
             Term::Top => self.steps,
             Term::Bottom => 0,
-            Term::Name(_) | Term::Some(..) | Term::All(..) => unreachable!("a place has its own grade"),
+            Term::Name(_) | Term::Some(..) | Term::All(..) => unreachable!("it has a grade of its own"),
         }
     }
 

@@ -1,6 +1,6 @@
-//! The specification (document 01, and P1, P2 and P4 of document 02) once more, written from its text alone and the obvious
-//! way: bytes are read into plain values, each sentence is a function, and speed is no aim but in placing. It is the other
-//! side of the differential test and of the sweeps.
+//! The specification (document 01, and P1, P2, P4 and P5 of document 02) once more, written from its text alone and the
+//! obvious way: bytes are read into plain values, each sentence is a function, and speed is no aim but in placing. It is the
+//! other side of the differential test and of the sweeps.
 //!
 //! A refusal is its number; `ask` is the rule "the first no gives the number".
 

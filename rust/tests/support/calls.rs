@@ -58,6 +58,26 @@ pub fn answer<const N: usize>(fields: [usize; N]) -> Answer {
 /// A side of the comparison: takes a book, a sheet (where the call does), the call and its buffers.
 pub type Side = fn(&[u8], &[u8], Call, &mut [Buffer]) -> Answer;
 
+/// What every side answers and leaves, each in buffers that held this; `plain` is the book, opened.
+pub fn on_every_side(
+    book: &[u8],
+    plain: &Plain,
+    sheet: &[u8],
+    call: Call,
+    held: &[Vec<u8>],
+) -> [(Answer, Vec<Buffer>); 3] {
+    type Asked<'a> = &'a dyn Fn(&mut [Buffer]) -> Answer;
+    let sides: [Asked; 3] = [
+        &|buffers| self::plain(plain, sheet, call, buffers),
+        &|buffers| wrapped(book, sheet, call, buffers),
+        &|buffers| raw(book, sheet, call, buffers),
+    ];
+    sides.map(|side| {
+        let mut buffers: Vec<_> = held.iter().map(|bytes| Buffer::new(bytes, 0)).collect();
+        (side(&mut buffers), buffers)
+    })
+}
+
 /// The plain implementation.
 pub fn plain(book: &Plain, sheet: &[u8], call: Call, buffers: &mut [Buffer]) -> Answer {
     let result = match (call, buffers) {

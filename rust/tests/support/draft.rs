@@ -57,6 +57,75 @@ impl Draft {
         Draft { memberships: self.memberships.iter().flat_map(singles).collect(), ..self.clone() }
     }
 
+    /// Whether a name stands in several terms.
+    pub fn recurs(&self) -> bool {
+        (0..self.terms.len()).any(|number| self.repeats(number))
+    }
+
+    /// Whether a term has the name of an earlier one.
+    pub fn repeats(&self, number: usize) -> bool {
+        let term = self.terms[number];
+        term[0] == NAME && self.terms[..number].contains(&term)
+    }
+
+    /// The book with each name in one term: those that repeat a name are left out, and the name's first term stands for them.
+    pub fn names_once(&self) -> Draft {
+        let numbers = self.numbers_once();
+        let mut once = self.clone();
+        once.renumber(|number, _| numbers[usize::from(number)]);
+        let kept = (0..once.terms.len()).filter(|&number| !self.repeats(number));
+        once.terms = kept.map(|number| once.terms[number]).collect();
+        once
+    }
+
+    /// Of each term, the number of the one that stands for it there.
+    pub fn numbers_once(&self) -> Vec<u8> {
+        let (mut numbers, mut kept) = (Vec::new(), 0);
+        for (number, term) in self.terms.iter().enumerate() {
+            if self.repeats(number) {
+                let first = self.terms.iter().position(|other| other == term).expect("an earlier term");
+                numbers.push(numbers[first]);
+            } else {
+                numbers.push(kept);
+                kept += 1;
+            }
+        }
+        numbers
+    }
+
+    /// Replaces each number of a term, in terms, rules and membership claims. The second number handed on is the one that it
+    /// has to stay below: of a child its term's own, else the number of terms.
+    pub fn renumber(&mut self, mut new: impl FnMut(u8, usize) -> u8) {
+        for (own, term) in self.terms.iter_mut().enumerate() {
+            let children = match term[0] {
+                NOT => 1..2,
+                AND | OR => 1..3,
+                SOME | ALL => 2..3,
+                _ => continue,
+            };
+            term[children].iter_mut().for_each(|child| *child = new(*child, own));
+        }
+        let in_rules = self.rules.iter_mut().flatten();
+        let in_claims = self.memberships.iter_mut().map(|claim| &mut claim[1]);
+        in_rules.chain(in_claims).for_each(|number| *number = new(*number, self.terms.len()));
+    }
+
+    /// Puts in a term that has no child; the numbers of those behind it follow.
+    pub fn insert(&mut self, at: usize, term: [u8; 3]) {
+        self.renumber(|number, _| if usize::from(number) < at { number } else { number + 1 });
+        self.terms.insert(at, term);
+    }
+
+    /// Puts another book's records behind these.
+    pub fn paste(&mut self, mut other: Draft) {
+        let before = self.terms.len() as u8;
+        other.renumber(|number, _| before + number);
+        self.terms.extend(other.terms);
+        self.rules.extend(other.rules);
+        self.memberships.extend(other.memberships);
+        self.links.extend(other.links);
+    }
+
     /// Adds a term and gives its number.
     pub fn term(&mut self, kind: u8, a: u8, b: u8) -> u8 {
         self.terms.push([kind, a, b]);
