@@ -1,5 +1,6 @@
 // A book's sections, and the grades of its candidates.
 #include "plain_book.h"
+#include <string.h>
 
 static int two_bytes(const uint8_t *b) { return b[0] << 8 | b[1]; }
 
@@ -12,10 +13,26 @@ static void reach_upward(book *k, const uint8_t *pairs, int count) {
             if (binds(k->upward, by, r)) k->upward[r] |= k->upward[by];
 }
 
+// Copies the terms. Of those that have one name all but the first become repeated ones.
+static void copy_terms(book *k, const uint8_t *terms) {
+    int next[NAMES] = {0}; // one more than the name's first term; 0 before that
+    memcpy(k->terms, terms, 3 * k->term_count);
+    for (int i = 0; i < k->term_count; i++) {
+        uint8_t *t = k->terms + 3 * i;
+        if (t[0] != NAME) continue;
+        int first = next[t[1]] - 1;
+        if (first < 0) {
+            next[t[1]] = i + 1;
+        } else {
+            t[0] = REPEATED;
+            t[1] = first;
+        }
+    }
+}
+
 book sections(const uint8_t *b) {
     book k = {
         .steps = b[1],
-        .terms = b + two_bytes(b + 2),
         .term_count = two_bytes(b + 4),
         .rules = b + two_bytes(b + 6),
         .rule_count = two_bytes(b + 8),
@@ -24,6 +41,7 @@ book sections(const uint8_t *b) {
         .links = b + two_bytes(b + 14),
         .link_count = two_bytes(b + 16),
     };
+    copy_terms(&k, b + two_bytes(b + 2));
     if (b[0] == 2) reach_upward(&k, b + two_bytes(b + 18), two_bytes(b + 20));
     else reach_upward(&k, NULL, 0);
     return k;
@@ -63,6 +81,7 @@ void grades(const book *k, unsigned c, uint8_t row[MOST_TERMS]) {
         case OR: row[i] = row[t[1]] > row[t[2]] ? row[t[1]] : row[t[2]]; break;
         case TOP: row[i] = k->steps; break;
         case BOTTOM: row[i] = 0; break;
+        case REPEATED: row[i] = row[t[1]]; break;
         default: row[i] = c % base; c /= base;
         }
     }

@@ -4,12 +4,13 @@
 #include "plain.h"
 #include <stdbool.h>
 
-enum { NAME, NOT, AND, OR, SOME, ALL, TOP, BOTTOM }; // the kinds of terms
-enum { MOST_TERMS = 64, MOST_CLAIMS = 64, MOST_INDIVIDUALS = 8, MOST_QUANTIFIED = 16, ROLES = 8 };
+enum { NAME, NOT, AND, OR, SOME, ALL, TOP, BOTTOM, REPEATED }; // the kinds of terms; a repeated one is a name that an earlier term has
+enum { MOST_TERMS = 64, MOST_CLAIMS = 64, MOST_INDIVIDUALS = 8, MOST_QUANTIFIED = 16, NAMES = 16, ROLES = 8 };
 
 typedef struct {
     int steps; // N
-    const uint8_t *terms, *rules, *members, *links;
+    uint8_t terms[3 * MOST_TERMS]; // kind, a and b as in the bytes; but a repeated one has as a the name's first term
+    const uint8_t *rules, *members, *links;
     int term_count, rule_count, member_count, link_count;
     uint8_t upward[ROLES]; // bit s of the byte of role r: s is r, or is reached from r upward, by the pairs
 } book;
@@ -30,7 +31,7 @@ int count_candidates(const book *k);
 
 int count_individuals(const book *k);
 
-// The grades of all terms in candidate c: a place takes the next digit, any other term follows from its children.
+// The grades of all terms in candidate c: a place takes the next digit, a repeated name follows its first term, any other term its children.
 void grades(const book *k, unsigned c, uint8_t row[MOST_TERMS]);
 
 #endif
