@@ -14,7 +14,7 @@ use std::fs;
 
 use generate::random::Random;
 use generate::{books, tables};
-use support::draft::{Draft, AT_LEAST, EACH_AT_MOST};
+use support::draft::{Draft, AT_LEAST, EACH_AT_MOST, NAME};
 use zegbiko::{Decision, ImpliedRules};
 
 const SEED: u64 = 4;
@@ -197,6 +197,26 @@ fn more_pairs_imply_no_less() {
     }
     println!("in {more} books pairs imply more");
     assert!(more > 100);
+}
+
+/// "The grades of all terms with one name agree in every type": each of them bounds the others.
+#[test]
+fn terms_of_one_name_agree() {
+    let mut agree = 0;
+    for (book, _) in drawn() {
+        let draft = Draft::of(&book);
+        if draft.recurs() {
+            let implied = implied(&book);
+            for (one, other) in pairs(draft.terms.len()) {
+                if draft.terms[one] == draft.terms[other] && draft.terms[one][0] == NAME {
+                    assert!(implied.agree(one, other), "{one} {other} {book:02X?}");
+                    agree += usize::from(one < other);
+                }
+            }
+        }
+    }
+    println!("{agree} pairs of terms of one name agree");
+    assert!(agree > 1000);
 }
 
 #[test]

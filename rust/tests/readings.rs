@@ -1076,7 +1076,7 @@ fn at_most_16384_candidates_of_recurring_names() {
 /// A sheet has a grade for each name, in however many terms it stands; and each of them gets it.
 #[test]
 fn sheets_of_recurring_names() {
-    // A, C, A again, "A and C" of the last two, N 2: A is 3, since C is name 2. A at least 1, by its second term.
+    // A, C, A again and "A and C", N 2. The sheet has three names, since C is name 2. A at least 1, by its second term.
     let mut book = Draft::new(2);
     book.terms = vec![[NAME, 0, 0], [NAME, 2, 0], [NAME, 0, 0], [AND, 2, 1], [BOTTOM, 0, 0]];
     book.rules = vec![[1, 0], [2, 1], [4, 2]];
