@@ -87,12 +87,18 @@ returns c =
 returns-2 : tie.Need-returns-2
 returns-2 c =
     let s = c .before .before .before .before .before .before .before in
-    (rw (c .conjunction .ensures, c .before .child-grade3 .ensures, c .before .before .child-grade2 .ensures) (grade-kind _ _ _ _ _ 2 (c .before .before .before .match .keys2)), left s 2 (c .before .before .before .match .keys2) (inl (omega arith, omega arith)))
+    let kind = c .before .before .before .match .keys2 in (
+      rw (c .conjunction .ensures, c .before .child-grade3 .ensures, c .before .before .child-grade2 .ensures) (grade-kind _ _ _ _ _ 2 kind),
+      left s 2 kind (inl (omega arith, omega arith)),
+    )
 
 returns-3 : tie.Need-returns-3
 returns-3 c =
     let s = c .before .before .before .before .before .before .before in
-    (rw (c .disjunction .ensures, c .before .child-grade5 .ensures, c .before .before .child-grade4 .ensures) (grade-kind _ _ _ _ _ 3 (c .before .before .before .match .keys3)), left s 3 (c .before .before .before .match .keys3) (inl (omega arith, omega arith)))
+    let kind = c .before .before .before .match .keys3 in (
+      rw (c .disjunction .ensures, c .before .child-grade5 .ensures, c .before .before .child-grade4 .ensures) (grade-kind _ _ _ _ _ 3 kind),
+      left s 3 kind (inl (omega arith, omega arith)),
+    )
 
 returns-4 : tie.Need-returns-4
 returns-4 c = (grade-kind _ _ _ _ _ 6 (c .match .keys4), left (c .before .before .before .before) 6 (c .match .keys4) (inr (omega arith)))
