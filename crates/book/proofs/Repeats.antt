@@ -4,10 +4,11 @@ use mathlib.Core.Path.{_≡_, refl, sym, ap, subst, _∙_}
 use mathlib.Core.List.{List, [], _∷_, _++_}
 use Prim.Native.Nat.{ℕ, suc, _*_, _/_, _<_}
 use native.Mathlib.Omega.{arith}
-use lib.ListN.{length}
+use lib.ListN.{length, length-append}
 use Rattle.encoding.proofs.Stretches.{length-stretch}
-use Rattle.semantics.specs.Terms.{Term, name}
+use Rattle.semantics.specs.Terms.{name}
 use Rattle.semantics.specs.Books.{Book}
+use Rattle.semantics.proofs.Terms.{withTerm}
 use Rattle.claims.specs.Pairs.{PairsRight}
 use Rattle.sections.specs.Terms.{termCount, termsOf, TermsRight}
 use Rattle.sections.proofs.Terms.{count-more, terms-more, right-more}
@@ -16,16 +17,6 @@ use Rattle.book.specs.Reading.{bookOf}
 use Rattle.book.specs.Opening.{Accepts, Right}
 use Rattle.book.proofs.Opening.{accepts-right, right-accepts, sections-ordered}
 use Rattle.book.proofs.Reading.{right-whole}
-
--- the book with a further, last term
-abbrev pub withTerm : Term → Book → Book
-withTerm t B = record {
-  grading = record { steps = B .grading .steps; connectives = B .grading .connectives; terms = B .grading .terms ++ (t ∷ []); above = B .grading .above };
-  rules = B .rules;
-  pairs = B .pairs;
-  memberships = B .memberships;
-  links = B .links;
-}
 
 module _ (b c : List ℕ) (ok : Accepts b) (a : ℕ) (terms-longer : termBytes c (sectionsOf c) ≡ termBytes b (sectionsOf b) ++ (0 ∷ a ∷ 0 ∷ []))
     (steps-same : steps c ≡ steps b) (rules-same : ruleBytes c (sectionsOf c) ≡ ruleBytes b (sectionsOf b))
@@ -46,6 +37,11 @@ module _ (b c : List ℕ) (ok : Accepts b) (a : ℕ) (terms-longer : termBytes c
   more-reads =
       let ts = ap termsOf terms-longer ∙ terms-more (termBytes b (sectionsOf b)) (termsIn (sectionsOf b)) whole 0 a 0 in
       cc (chain-same)
+
+  -- so a term of the book is one of this
+  pub more-terms : (i : ℕ) → i < length (bookOf b .grading .terms) → i < length (bookOf c .grading .terms)
+  more-terms i h =
+      subst (λ (B : Book). i < length (B .grading .terms)) (sym more-reads) (rw (length-append (bookOf b .grading .terms) (name a ∷ [])) (omega arith))
 
   -- where its length, edition, counts and layout are right, it is accepted
   pub more-accepted : a < 16 → LengthRight c → EditionRight c → CountsRight c → LaidOut c (sectionsOf c) → Accepts c

@@ -1,27 +1,22 @@
 -- Accepted books with the same candidates, survivors, outcome and placement are decided alike: the same answer, the same marks and the same
--- placement. Books that read alike are such, a book and the one with its sets written out, and a book and
--- one whose terms are renumbered so that the places stay what they are.
+-- placement. Books that read alike are such, a book and the one with its sets written out, and a book and one whose terms are renumbered so that the
+-- places stay what they are.
 -- Assumes nothing.
-use mathlib.Core.Path.{_≡_, sym, ap, ap₂, subst, _∙_}
+use mathlib.Core.Path.{_≡_, sym, ap, _∙_}
 use mathlib.Core.Option.{Option}
 use mathlib.Core.List.{List, [], _∷_}
-use Prim.Native.Nat.{ℕ, _<_}
+use Prim.Native.Nat.{ℕ}
 use native.Mathlib.Decide.{decLe}
 use lib.ListN.{length}
 use Rattle.chain.specs.Questions.{Question, ask, firstNo}
 use Rattle.chain.proofs.Questions.{first-none-append}
 use Rattle.chain.proofs.Answers.{answer-alike}
-use Rattle.chain.proofs.Lists.{map-each-same}
-use Rattle.semantics.specs.Terms.{Term, name, term}
-use Rattle.semantics.specs.Interpretations.{WellFormed}
-use Rattle.semantics.specs.Books.{Book, Rule, MembershipClaim, Valid}
+use Rattle.semantics.specs.Books.{Book, Valid}
 use Rattle.semantics.proofs.Claims.{written}
 use Rattle.types.specs.Candidates.{candidates}
-use Rattle.types.specs.Sharing.{renumberRule, renumberClaim, withTerms, renumbered, sharedNumber, sharedTerms, shared}
-use Rattle.types.proofs.Sharing.{Renumbered, candidates-renumbered, sharing, shared-formed, withoutLast, without-before, without}
+use Rattle.types.proofs.Sharing.{RenumberedBook, candidates-renumbered}
 use Rattle.book.specs.Reading.{bookOf}
 use Rattle.book.specs.Opening.{bookQuestions, Accepts}
-use Rattle.book.proofs.Repeats.{withTerm}
 use Rattle.counter.specs.Counting.{fewCandidates?}
 use Rattle.elimination.specs.Survivors.{survivorsOf}
 use Rattle.elimination.proofs.Sharing.{survivors-renumbered}
@@ -57,34 +52,17 @@ same-written B C e = record {
 }
 
 -- and so are a book and one whose terms are renumbered so that the places stay what they are
-pub same-renumbered : (B C : Book) (us : List Term) (f : ℕ → ℕ) → Valid B → WellFormed (withTerms (B .grading) us) → Renumbered f (B .grading .terms) us
-    → C ≡ renumbered f us B → SameDecision B C
-same-renumbered B C us f v w re e = record {
-  candidates-same = candidates-renumbered (B .grading) us f (v .well-formed) w re ∙ ap (λ (A : Book). candidates (A .grading)) (sym e);
-  survivors-same = survivors-renumbered B us f v w re ∙ ap survivorsOf (sym e);
-  outcome-same = outcome-renumbered B us f v w re ∙ ap outcome (sym e);
-  placement-same = placement-renumbered B us f v w re ∙ ap placement (sym e);
-}
-
--- such as the one in which no name recurs
-pub same-shared : (B C : Book) → Valid B → C ≡ shared B → SameDecision B C
-same-shared B C v e =
-    same-renumbered B C (sharedTerms (B .grading .terms)) (sharedNumber (B .grading .terms)) v (shared-formed (B .grading) (v .well-formed)) (sharing (B .grading .terms)) e
-
--- or one without a last term that repeats a name
-pub same-without : (B C : Book) (k a : ℕ) → Valid B → Valid C → k < length (C .grading .terms) → term (C .grading .terms) k ≡ name a → B ≡ withTerm (name a) C
-    → SameDecision B C
-same-without B C k a v w l e q =
-    let ts = C .grading .terms in
-    let f = withoutLast ts k in
-    let o = w .well-formed .ordered in
-    let before = without-before ts o k a l e in
-    let same : C ≡ renumbered f ts (withTerm (name a) C) =
-    ap₂ (λ (rs : List Rule) (ms : List MembershipClaim). record { grading = C .grading; rules = rs; pairs = C .pairs; memberships = ms; links = C .links })
-    (sym (map-each-same (renumberRule f) (λ r h. rw (before (r .left) (h .0), before (r .right) (h .1))) (C .rules) (w .rules-in)))
-    (sym (map-each-same (renumberClaim f) (λ m h. rw (before (m .term) h)) (C .memberships) (w .terms-in))) in
-    subst (λ (A : Book). SameDecision A C) (sym q)
-    (same-renumbered (withTerm (name a) C) C ts f (subst Valid q v) (w .well-formed) (without ts o k a l e) same)
+pub same-renumbered : (f : ℕ → ℕ) (B C : Book) → Valid B → RenumberedBook f B C → SameDecision B C
+same-renumbered f B C v r =
+    let us = C .grading .terms in
+    let w = r .formed in
+    let re = r .terms-renumbered in
+    let e = sym (r .book-is) in record {
+      candidates-same = candidates-renumbered (B .grading) us f (v .well-formed) w re ∙ ap (λ (A : Book). candidates (A .grading)) e;
+      survivors-same = survivors-renumbered B us f v w re ∙ ap survivorsOf e;
+      outcome-same = outcome-renumbered B us f v w re ∙ ap outcome e;
+      placement-same = placement-renumbered B us f v w re ∙ ap placement e;
+    }
 
 module _ (b c : List ℕ) (ok : Accepts b) (also : Accepts c) (same : SameDecision (bookOf b) (bookOf c)) where
   questions-alike : (m p : ℕ) → firstNo (decideQuestions b m p) ≡ firstNo (decideQuestions c m p)

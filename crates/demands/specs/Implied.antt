@@ -93,7 +93,7 @@ module _ (b marks table : List ℕ) (ok : firstNo (impliedQuestions b (length ma
   width = length (G .terms)
 
   -- "one byte per ordered pair of terms, row by row": of the left term i, whose row it is, and the right term j
-  abbrev byte : (i j : ℕ) → ℕ
+  abbrev pub byte : (i j : ℕ) → ℕ
   byte i j = getD table′ (width * i + j) 0
 
   -- "left is never greater than right in any finite interpretation that meets the rules" (and, since P1, every pair)

@@ -1,7 +1,7 @@
--- Laws of evaluation: the value of each term follows from those of its children, and nothing else does so.
+-- Laws of evaluation: the value of each term follows from those of its children, and nothing else does so. And a book with a further term.
 -- Assumes nothing.
 use mathlib.Core.Path.{_≡_, refl, sym, ap, ap₂, subst, _∙_}
-use mathlib.Core.List.{List}
+use mathlib.Core.List.{List, [], _∷_, _++_}
 use Prim.Native.Nat.{ℕ, zero, suc, _<_}
 use native.Mathlib.Nat.{not-suc-le-zero}
 use native.Mathlib.Omega.{arith}
@@ -10,6 +10,7 @@ use Rattle.chain.specs.Connectives.{Quantifier, existential, universal}
 use Rattle.chain.proofs.Search.{strong}
 use Rattle.semantics.specs.Terms.{Term, name, not, and, or, some, all, top, bottom, term, Children, Ordered, Carrier, local, deep, value}
 use Rattle.semantics.specs.Quantified.{quantified}
+use Rattle.semantics.specs.Books.{Book}
 
 -- the child of a quantified term stands before it
 pub child-lt : (ts : List Term) → Ordered ts → (i : ℕ) → i < length ts → (q : Quantifier) (r x : ℕ) → term ts i ≡ quantified q r x → x < i
@@ -45,3 +46,13 @@ module _ {X : Type 0} (A : Carrier X) where
     value-unique v e =
         strong (λ i. i < length ts → v i ≡ value A ts i) (λ i ih l.
         e i l ∙ local-same i (term ts i) (o i l) v (value A ts) (λ j k. ih j k (omega arith)) ∙ sym (value-local i l))
+
+-- the book with a further, last term
+abbrev pub withTerm : Term → Book → Book
+withTerm t B = record {
+  grading = record { steps = B .grading .steps; connectives = B .grading .connectives; terms = B .grading .terms ++ (t ∷ []); above = B .grading .above };
+  rules = B .rules;
+  pairs = B .pairs;
+  memberships = B .memberships;
+  links = B .links;
+}

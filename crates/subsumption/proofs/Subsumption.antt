@@ -113,6 +113,16 @@ module _ (G : Grading) (cs : List ℕ) where
       go (yes h) = inr refl
       go (no n) = inl refl
 
+  -- bytes that say the same are the same
+  pub byte-same : (H : Grading) (ds : List ℕ) (i j x y : ℕ) → Subsumed G cs i j ↔ Subsumed H ds x y → impliedByte G cs i j ≡ impliedByte H ds x y
+  byte-same H ds i j x y w = go (subsumed? G cs i j) (subsumed? H ds x y)
+    where
+      go : (d : Dec (Subsumed G cs i j)) (e : Dec (Subsumed H ds x y)) → ite {C = ℕ} d 1 0 ≡ ite e 1 0
+      go (yes h) (yes k) = refl
+      go (yes h) (no n) = absurd (n (w .0 h))
+      go (no n) (yes k) = absurd (n (w .1 k))
+      go (no n) (no m) = refl
+
   -- ---- reflexive and transitive; where it does not hold, a type shows it
 
   pub none-subsumed : length cs ≡ 0 → (i j : ℕ) → Subsumed G cs i j

@@ -1,7 +1,7 @@
 -- Laws of terms that are renumbered so that the places stay what they are: the candidates are the same, with the same grades and links. Leaving out the
 -- terms that repeat a name is such a renumbering.
 -- Assumes nothing.
-use mathlib.Core.Path.{_≡_, refl, sym, ap, subst, _∙_}
+use mathlib.Core.Path.{_≡_, refl, sym, ap, ap₂, subst, _∙_}
 use mathlib.Core.Logic.{_↔_, ⊎-elim, dite, ite, if-pos, if-neg}
 use mathlib.Core.List.{List, [], _∷_, _++_}
 use Prim.Native.Nat.{ℕ, zero, suc, _^_, _≤_, _<_}
@@ -13,16 +13,18 @@ use lib.Seq.{getD-append-seam}
 use Rattle.chain.specs.Search.{rank}
 use Rattle.chain.specs.Digits.{digit}
 use Rattle.chain.specs.Connectives.{Quantifier, existential, universal, Permits}
-use Rattle.chain.proofs.Lists.{length-table, getD-table}
+use Rattle.chain.proofs.Lists.{length-table, getD-table, map-each-same}
 use Rattle.chain.proofs.Search.{strong, rank-yes, rank-no, rank-lt, rank-onto, rank-same, select-rank}
 use Rattle.semantics.specs.Terms.{Term, name, not, and, or, some, all, top, bottom, term, Children, Ordered, local}
 use Rattle.semantics.specs.Quantified.{quantified, Case, case-at}
 use Rattle.semantics.specs.Interpretations.{Grading, WellFormed}
+use Rattle.semantics.specs.Books.{Rule, MembershipClaim, Book, Valid}
 use Rattle.semantics.specs.Links.{Allows}
+use Rattle.semantics.proofs.Terms.{withTerm}
 use Rattle.semantics.proofs.Links.{child-in}
 use Rattle.types.specs.Candidates.{place, HasPlace, OpensAs, Opens, opens?, places, home, placeNumber, base, candidates, inCandidate, gradeIn}
 use Rattle.types.specs.Links.{link}
-use Rattle.types.specs.Sharing.{renumber, kept?, sharedNumber, sharedTerms, withTerms}
+use Rattle.types.specs.Sharing.{renumber, renumberRule, renumberClaim, kept?, sharedNumber, sharedTerms, withTerms, renumbered, shared}
 use Rattle.types.proofs.Candidates.{name-or-none, home-none, home-first, home-other, home-opens, home-no-later, home-home, term-home, opens-home, gradeIn-local}
 use Rattle.types.proofs.Links.{link-le, link-most, link-allows}
 
@@ -33,6 +35,12 @@ pub record Renumbered (f : ℕ → ℕ) (ts us : List Term) : Type 0 where
   pub onto : (j : ℕ) → j < length us → (i : ℕ) × (i < length ts) × (f i ≡ j)
   pub places-same : places us ≡ places ts
   pub number-same : (i : ℕ) → i < length ts → HasPlace (place (term ts i)) → placeNumber us (f i) ≡ placeNumber ts i
+
+-- and so of two books: C is B with term f i in place of i, in terms, rules and claims
+pub record RenumberedBook (f : ℕ → ℕ) (B C : Book) : Type 0 where
+  pub formed : WellFormed (withTerms (B .grading) (C .grading .terms))
+  pub terms-renumbered : Renumbered f (B .grading .terms) (C .grading .terms)
+  pub book-is : C ≡ renumbered f (C .grading .terms) B
 
 -- what a renumbered term is, the term was, with other children
 module _ (f : ℕ → ℕ) where
@@ -192,7 +200,7 @@ module _ (ts : List Term) where
       (λ n. rank-no (opens? (sharedTerms ts)) (keptBefore i) (λ o. n (opens-kept i (omega arith) k .0 o)) ∙ places-kept i (omega arith) ∙ sym (rank-no (opens? ts) i n))))
       (λ n. rw (rank-no (kept? ts) i n) (places-kept i (omega arith) ∙ sym (rank-no (opens? ts) i (λ o. n (home-opens ts i (omega arith) o)))))
 
-  pub sharing : Renumbered (sharedNumber ts) ts (sharedTerms ts)
+  sharing : Renumbered (sharedNumber ts) ts (sharedTerms ts)
   unfolding places placeNumber
   sharing = record {
     lands = λ i l. let (g, e, n) = number-home i l in rw n (kept-lands (home ts i) g e);
@@ -220,7 +228,7 @@ module _ (ts : List Term) where
       was x i l h k e = renumber-name (sharedNumber ts) (term ts x) a (sym (kept-term x l h) ∙ rw k e)
 
   -- children stand below, as they did
-  pub shared-ordered : Ordered ts → Ordered (sharedTerms ts)
+  shared-ordered : Ordered ts → Ordered (sharedTerms ts)
   shared-ordered o j l =
       let (i, g, e, k) = kept-at j l in
       subst (λ (z : ℕ). Children z (term (sharedTerms ts) z)) k (subst (Children (keptBefore i)) (sym (kept-term i g e)) (go i g (term ts i) (o i g)))
@@ -238,8 +246,12 @@ module _ (ts : List Term) where
       go i l top h = tt
       go i l bottom h = tt
 
-pub shared-formed : (G : Grading) → WellFormed G → WellFormed (withTerms G (sharedTerms (G .terms)))
-shared-formed G w = record { lawful = w .lawful; ordered = shared-ordered (G .terms) (w .ordered) }
+pub shared-book : (B : Book) → Valid B → RenumberedBook (sharedNumber (B .grading .terms)) B (shared B)
+shared-book B v = record {
+  formed = record { lawful = v .well-formed .lawful; ordered = shared-ordered (B .grading .terms) (v .well-formed .ordered) };
+  terms-renumbered = sharing (B .grading .terms);
+  book-is = refl;
+}
 
 -- ---- a further, last term that repeats the name of term k
 
@@ -309,7 +321,7 @@ module _ (ts : List Term) (o : Ordered ts) (k a : ℕ) (l : k < length ts) (e : 
   last-opens-none : ¬ Opens more (length ts)
   last-opens-none p = omega (arith, home-opens more (length ts) (rw length-more (omega arith)) p, home-last, home-no-later ts k l)
 
-  pub without : Renumbered f more ts
+  without : Renumbered f more ts
   unfolding places placeNumber
   without = record {
     lands = λ i h. dite (decLt i (length ts)) (λ g. rw (without-before i g) g) (λ n. rw (last i h n, without-last) (omega (arith, home-no-later ts k l)));
@@ -325,3 +337,18 @@ module _ (ts : List Term) (o : Ordered ts) (k a : ℕ) (l : k < length ts) (e : 
     where
       last : (i : ℕ) → i < length more → ¬ (i < length ts) → i ≡ length ts
       last i h n = omega (arith, length-more)
+
+pub book-without : (C : Book) (k a : ℕ) → Valid C → k < length (C .grading .terms) → term (C .grading .terms) k ≡ name a
+    → RenumberedBook (withoutLast (C .grading .terms) k) (withTerm (name a) C) C
+book-without C k a v l e =
+    let ts = C .grading .terms in
+    let f = withoutLast ts k in
+    let o = v .well-formed .ordered in
+    let before = without-before ts o k a l e in record {
+      formed = v .well-formed;
+      terms-renumbered = without ts o k a l e;
+      book-is =
+          ap₂ (λ (rs : List Rule) (ms : List MembershipClaim). record { grading = C .grading; rules = rs; pairs = C .pairs; memberships = ms; links = C .links })
+          (sym (map-each-same (renumberRule f) (λ r h. rw (before (r .left) (h .0), before (r .right) (h .1))) (C .rules) (v .rules-in)))
+          (sym (map-each-same (renumberClaim f) (λ m h. rw (before (m .term) h)) (C .memberships) (v .terms-in)));
+    }
