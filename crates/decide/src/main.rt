@@ -47,7 +47,7 @@ fn print_outcome(outcome: u8, survivors: usize) {
 // A line for each candidate that is marked, in ascending order; 256 candidates' lines fit in the buffer.
 fn print_types(terms: &[u8], logic: Logic, marks: &[u8])
     requires { ⌜ TermsRight (now terms) ⌝ }
-    requires { ⌜ (termCount (now terms) ≤ 64) × (logic .steps < 10) ⌝ }
+    requires { ⌜ (termCount (now terms) ≤ 64) × (logic .steps < 10) × (length (now marks) ≤ 16384) ⌝ }
 {
     let mut out = io::large_buffer();
     let mut first = 0;
@@ -61,7 +61,7 @@ fn print_types(terms: &[u8], logic: Logic, marks: &[u8])
 
 // The survivors' lines.
 fn print_survivors(b: &[u8], s: Sections, marks: &[u8])
-    requires { ⌜ Right (now b) s ⌝ }
+    requires { ⌜ Right (now b) s × (length (now marks) ≤ 16384) ⌝ }
 {
     print_types(layout::terms_in(b, s), book::logic_in(b, s), marks);
 }

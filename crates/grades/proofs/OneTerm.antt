@@ -12,7 +12,7 @@ use native.Mathlib.Omega.{arith}
 use lib.ListN.{length, getD}
 use Rattle.chain.specs.Decisions.{Tells}
 use Rattle.chain.specs.Lists.{table}
-use Rattle.chain.specs.Connectives.{Quantifier, Permits}
+use Rattle.chain.specs.Connectives.{Quantifier, existential, universal, Permits}
 use Rattle.chain.proofs.Decisions.{tells-map}
 use Rattle.chain.proofs.Lists.{length-table, getD-table, every-table}
 use Rattle.chain.proofs.Digits.{digit-power, off-zero, off-suc}
@@ -23,7 +23,7 @@ use Rattle.semantics.specs.Links.{Governs, TermAllows}
 use Rattle.semantics.proofs.Terms.{child-lt, local-same}
 use Rattle.semantics.proofs.Quantified.{quantified-alike}
 use Rattle.types.specs.Candidates.{place, HasPlace, Opens, opens?, home as homeOf, gradeIn}
-use Rattle.types.proofs.Candidates.{home-no-later, opens-home, gradeIn-local, gradeIn-le, gradeIn-opens, gradeIn-home}
+use Rattle.types.proofs.Candidates.{home-no-later, home-opens, opens-home, gradeIn-local, gradeIn-le, gradeIn-opens, gradeIn-home}
 use Rattle.places.proofs.Places.{other-kind, opens-not, openBefore, none-open, open-more, open-same}
 use Rattle.gradings.specs.Gradings.{connectivesOf, grading}
 use Rattle.gradings.specs.declared.Logic.{Logic}
@@ -130,6 +130,28 @@ module _ (B c : ℕ) (s xs : List ℕ) (h : length xs < termCount s) where
           (λ _ _ _ n _ _. absurd (n refl)) (λ _ _ _ _ _ _. tt) (λ _ _ _ _ _ _. tt) (λ _ _ _ _ n _. absurd (n refl))
           (λ _ _ _ _ _ n. absurd (n refl)) (λ k g l _ _ _ _ _. absurd (omega arith)) (kindAt s (length xs))
           (described-kind (length xs) (kindAt s (length xs)) (aAt s (length xs)) (bAt s (length xs)) (ok (length xs) h)) n1 n2 n3 n6 n7
+
+-- where it is quantified, it opens a place, and so has the digit and takes it off
+module _ (s xs : List ℕ) (h : length xs < termCount s) (low : 4 ≤ kindAt s (length xs)) (high : kindAt s (length xs) ≤ 5) where
+  quantified-opens : Opens (termsOf s) (length xs)
+  quantified-opens = go (quantifierOf (kindAt s (length xs))) (quantified-term s (length xs) h low high)
+    where
+      go : (q : Quantifier) → term (termsOf s) (length xs) ≡ quantified q (aAt s (length xs)) (bAt s (length xs)) → Opens (termsOf s) (length xs)
+      go existential e = rw e tt
+      go universal e = rw e tt
+
+  pub grade-quantified : (l : Logic) (d home : ℕ) → home ≡ homeOf (termsOf s) (length xs) → d ≡ nextGrade l d home s xs
+  unfolding nextGrade
+  grade-quantified l d home e =
+      place-digit d home xs (λ m. omega (arith, e, home-opens (termsOf s) (length xs) (rw (length-terms s) h) quantified-opens))
+      ∙ go (quantifierOf (kindAt s (length xs))) (sym (term-at s (length xs) h) ∙ quantified-term s (length xs) h low high)
+    where
+      go : (q : Quantifier) → termAt s (length xs) ≡ quantified q (aAt s (length xs)) (bAt s (length xs)) → gradeOfPlace d home xs ≡ inTable l d home s xs (termAt s (length xs))
+      go existential e = rw e refl
+      go universal e = rw e refl
+
+  pub rest-quantified : (B c : ℕ) → c / B ≡ restAfter B (termsOf s) (length xs) c
+  rest-quantified B c = rest-opens B c (termsOf s) (length xs) quantified-opens
 
 -- ---- a row, one grade after the other
 

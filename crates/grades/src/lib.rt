@@ -1,7 +1,7 @@
 // Grades of terms in candidates and links of candidates, by rows: a candidate's type is the row of its grades.
 ghost use mathlib.Core.Path.{_≡_};
 ghost use mathlib.Core.List.{_++_};
-ghost use Prim.Native.Nat.{ℕ, _+_, _*_, _%_, _<_, _≤_};
+ghost use Prim.Native.Nat.{ℕ, _+_, _*_, _/_, _%_, _<_, _≤_};
 ghost use lib.ListN.{length, getD, take, drop};
 ghost use Rattle.chain.specs.Decisions.{Tells};
 ghost use Rattle.semantics.specs.Links.{TermAllows, Allows, linkBetween};
@@ -14,7 +14,6 @@ ghost use Rattle.grades.specs.Rows.{rowOf, HasGrades, entry, rowAt};
 ghost use Rattle.grades.specs.OneTerm.{nextGrade, restAfter, gradeOfPlace, restOfPlace};
 use encoding::wide;
 use gradings::Logic;
-use gradings::base;
 use gradings::conjunction;
 use gradings::disjunction;
 use gradings::governs;
@@ -34,21 +33,27 @@ fn child_grade(terms: &[u8], at: usize, row: &[u8]) -> u8
 
 // ---- the row of a candidate
 
-// The lowest digit in base steps + 1.
-fn lowest_digit(logic: Logic, rest: usize) -> u8
-    ensures { λ r. ⌜ r ≡ rest % (logic .steps + 1) ⌝ }
-{
-    (rest % base(logic)) as u8
-}
-
-// A term's grade, and what it leaves of a candidate's digits.
+// A term's grade, and what it leaves of a candidate's digits: 32 bits, which are divided faster than 64.
 pub struct Graded {
     pub grade: u8,
-    pub rest: usize,
+    pub rest: u32,
 }
 
-// The next term's, where it has a place, whose home is given: the grade of the earlier term that opens the place, or the lowest digit, which is taken off.
-fn place_grade(logic: Logic, home: u8, rest: usize, earlier: &[u8]) -> Graded
+// The next term's, where it opens a place: the lowest digit in base steps + 1, which is taken off.
+fn digit_grade(logic: Logic, rest: u32) -> Graded
+    ensures { λ r. ⌜ (r .grade ≡ rest % (logic .steps + 1)) × (r .rest ≡ rest / (logic .steps + 1)) ⌝ }
+{
+    let base = logic.steps as u32 + 1;
+    let digit = (rest % base) as u8;
+    let left = rest / base;
+    Graded {
+        grade: digit,
+        rest: left,
+    }
+}
+
+// The next term's, where it has a name, whose home is given: the grade of the earlier term that opens the place, or the next digit.
+fn name_grade(logic: Logic, home: u8, rest: u32, earlier: &[u8]) -> Graded
     ensures { λ r. ⌜ r .grade ≡ gradeOfPlace (rest % (logic .steps + 1)) home (now (earlier .entry)) ⌝ }
     ensures { λ r. ⌜ r .rest ≡ restOfPlace (logic .steps + 1) home (now (earlier .entry)) rest ⌝ }
 {
@@ -57,16 +62,11 @@ fn place_grade(logic: Logic, home: u8, rest: usize, earlier: &[u8]) -> Graded
         let grade = earlier[at];
         return Graded { grade, rest };
     }
-    let digit = lowest_digit(logic, rest);
-    let left = rest / base(logic);
-    Graded {
-        grade: digit,
-        rest: left,
-    }
+    digit_grade(logic, rest)
 }
 
 // The next term's, where `earlier` has the grades of the terms before it.
-fn term_grade(terms: &[u8], logic: Logic, home: u8, rest: usize, earlier: &[u8]) -> Graded
+fn term_grade(terms: &[u8], logic: Logic, home: u8, rest: u32, earlier: &[u8]) -> Graded
     requires { ⌜ TermsRight (now terms) ⌝ }
     requires { ⌜ (length (now earlier) < termCount (now terms)) × ((j : ℕ) → getD (now earlier) j 0 ≤ logic .steps) × (home ≡ homeOf (termsOf (now terms)) (length (now earlier))) ⌝ }
     ensures { λ r. ⌜ r .grade ≡ nextGrade logic (rest % (logic .steps + 1)) home (now (terms .entry)) (now (earlier .entry)) ⌝ }
@@ -102,7 +102,9 @@ fn term_grade(terms: &[u8], logic: Logic, home: u8, rest: usize, earlier: &[u8])
             rest,
         },
         7 => Graded { grade: 0, rest },
-        _ => place_grade(logic, home, rest, earlier),
+        4 => digit_grade(logic, rest),
+        5 => digit_grade(logic, rest),
+        _ => name_grade(logic, home, rest, earlier),
     }
 }
 
@@ -110,11 +112,11 @@ fn term_grade(terms: &[u8], logic: Logic, home: u8, rest: usize, earlier: &[u8])
 // found once, by whoever fills many rows.
 pub fn fill_row(terms: &[u8], logic: Logic, c: usize, row: &mut [u8], homes: &[u8; 64])
     requires { ⌜ TermsRight (now terms) ⌝ }
-    requires { ⌜ (termCount (now terms) ≤ 64) × (termCount (now terms) ≤ length (now row)) × HomesOf (now terms) (now homes) ⌝ }
+    requires { ⌜ (termCount (now terms) ≤ 64) × (termCount (now terms) ≤ length (now row)) × HomesOf (now terms) (now homes) × (c < 4294967296) ⌝ }
     ensures { λ _. ⌜ now (row .exit) ≡ rowOf (grading logic (termsOf (now (terms .entry)))) c ++ drop (termCount (now (terms .entry))) (now (row .entry)) ⌝ }
 {
     let count = terms.len() / 3;
-    let mut rest = c;
+    let mut rest = c as u32;
     let mut i = 0;
     while i < count {
         let home = homes[i];
@@ -128,7 +130,7 @@ pub fn fill_row(terms: &[u8], logic: Logic, c: usize, row: &mut [u8], homes: &[u
 // The grade of term `i` in candidate `c`.
 pub fn grade_of(terms: &[u8], logic: Logic, c: usize, i: usize) -> u8
     requires { ⌜ TermsRight (now terms) ⌝ }
-    requires { ⌜ (termCount (now terms) ≤ 64) × (i < termCount (now terms)) ⌝ }
+    requires { ⌜ (termCount (now terms) ≤ 64) × (i < termCount (now terms)) × (c < 4294967296) ⌝ }
     ensures { λ r. ⌜ r ≡ gradeIn (grading logic (termsOf (now (terms .entry)))) c i ⌝ }
 {
     let homes = find_homes(terms);
@@ -152,7 +154,7 @@ pub fn row_at(rows: &[u8], k: usize) -> &[u8]
 // Makes the row of candidate `c` row `k`. Those before it stay.
 pub fn put_row(terms: &[u8], logic: Logic, c: usize, rows: &mut [u8], k: usize, homes: &[u8; 64])
     requires { ⌜ TermsRight (now terms) ⌝ }
-    requires { ⌜ (termCount (now terms) ≤ 64) × (64 * k + 64 ≤ length (now rows)) × HomesOf (now terms) (now homes) ⌝ }
+    requires { ⌜ (termCount (now terms) ≤ 64) × (64 * k + 64 ≤ length (now rows)) × HomesOf (now terms) (now homes) × (c < 4294967296) ⌝ }
     ensures { λ _. ⌜ take (64 * k) (now (rows .exit)) ≡ take (64 * k) (now (rows .entry)) ⌝ }
     ensures { λ _. ⌜ HasGrades (grading logic (termsOf (now (terms .entry)))) c (rowAt (now (rows .exit)) k) ⌝ }
 {
@@ -228,7 +230,7 @@ pub fn link_of_rows(terms: &[u8], logic: Logic, role: u8, first: &[u8], second: 
 // The link from candidate `c` to candidate `d`.
 pub fn link_of(terms: &[u8], logic: Logic, role: u8, c: usize, d: usize) -> u8
     requires { ⌜ TermsRight (now terms) ⌝ }
-    requires { ⌜ termCount (now terms) ≤ 64 ⌝ }
+    requires { ⌜ (termCount (now terms) ≤ 64) × (c < 4294967296) × (d < 4294967296) ⌝ }
     ensures { λ r. ⌜ r ≡ link (grading logic (termsOf (now (terms .entry)))) role c d ⌝ }
 {
     let homes = find_homes(terms);

@@ -54,7 +54,7 @@ pub fn list_marked(marks: &[u8], count: usize, types: &mut [u16]) -> usize
 
 // A candidate as a number to count with.
 fn number(c: u16) -> usize
-    ensures { λ r. ⌜ r ≡ c ⌝ }
+    ensures { λ r. ⌜ (r ≡ c) × (r < 65536) ⌝ }
 {
     c as usize
 }

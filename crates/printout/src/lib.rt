@@ -143,7 +143,7 @@ fn type_line(
     homes: &[u8; 64],
 ) -> usize
     requires { ⌜ TermsRight (now terms) × HomesOf (now terms) (now homes) ⌝ }
-    requires { ⌜ (termCount (now terms) ≤ 64) × (logic .steps < 10) ⌝ }
+    requires { ⌜ (termCount (now terms) ≤ 64) × (logic .steps < 10) × (c < 16384) ⌝ }
     requires { ⌜ at + 192 ≤ length (now out) ⌝ }
     ensures { λ r. ⌜ Added (now (out .entry)) at (typeLine c (rowOf (grading logic (termsOf (now (terms .entry)))) c)) (now (out .exit)) r ⌝ }
     ensures { λ r. ⌜ r ≤ at + 192 ⌝ }
@@ -166,7 +166,7 @@ fn put_marked(
 ) -> usize
     requires { ⌜ TermsRight (now terms) × HomesOf (now terms) (now homes) ⌝ }
     requires { ⌜ (termCount (now terms) ≤ 64) × (logic .steps < 10) ⌝ }
-    requires { ⌜ (at + 192 ≤ length (now out)) × (c < length (now marks)) ⌝ }
+    requires { ⌜ (at + 192 ≤ length (now out)) × (c < length (now marks)) × (c < 16384) ⌝ }
     ensures { λ r. ⌜ Added (now (out .entry)) at (ite {C = List ℕ} (marked? (now (marks .entry)) c) (typeLine c (rowOf (grading logic (termsOf (now (terms .entry)))) c)) []) (now (out .exit)) r ⌝ }
     ensures { λ r. ⌜ r ≤ at + 192 ⌝ }
 {
@@ -187,7 +187,7 @@ pub fn type_lines(
 ) -> usize
     requires { ⌜ TermsRight (now terms) ⌝ }
     requires { ⌜ (termCount (now terms) ≤ 64) × (logic .steps < 10) ⌝ }
-    requires { ⌜ (192 * count ≤ length (now out)) × (first + count ≤ length (now marks)) ⌝ }
+    requires { ⌜ (192 * count ≤ length (now out)) × (first + count ≤ length (now marks)) × (first + count ≤ 16384) ⌝ }
     ensures { λ r. ⌜ Added (now (out .entry)) 0 (typeLines (rowOf (grading logic (termsOf (now (terms .entry))))) (keep (marked? (now (marks .entry))) (from first count))) (now (out .exit)) r ⌝ }
     ensures { λ r. ⌜ r ≤ 192 * count ⌝ }
 {

@@ -86,7 +86,7 @@ fn narrow(row: &[u8], steps: u8, sets: &mut [u64])
 // By the type of candidate `c`.
 fn narrow_by(terms: &[u8], logic: Logic, c: usize, sets: &mut [u64], homes: &[u8; 64])
     requires { ⌜ TermsRight (now terms) × HomesOf (now terms) (now homes) ⌝ }
-    requires { ⌜ (termCount (now terms) ≤ 64) × (termCount (now terms) ≤ length (now sets)) ⌝ }
+    requires { ⌜ (termCount (now terms) ≤ 64) × (termCount (now terms) ≤ length (now sets)) × (c < 16384) ⌝ }
     ensures { λ _. ⌜ Narrowed (termCount (now (terms .entry))) (now (sets .entry)) (now (sets .exit)) (λ i j. gradeIn (grading logic (termsOf (now (terms .entry)))) c i ≤ gradeIn (grading logic (termsOf (now (terms .entry)))) c j) ⌝ }
 {
     let mut row = [0u8; 64];
@@ -105,7 +105,7 @@ fn narrow_marked(
     homes: &[u8; 64],
 )
     requires { ⌜ TermsRight (now terms) × HomesOf (now terms) (now homes) ⌝ }
-    requires { ⌜ (termCount (now terms) ≤ 64) × (termCount (now terms) ≤ length (now sets)) × (c < length (now marks)) ⌝ }
+    requires { ⌜ (termCount (now terms) ≤ 64) × (termCount (now terms) ≤ length (now sets)) × (c < length (now marks)) × (c < 16384) ⌝ }
     ensures { λ _. ⌜ Narrowed (termCount (now (terms .entry))) (now (sets .entry)) (now (sets .exit)) (λ i j. Marked (now (marks .entry)) c → gradeIn (grading logic (termsOf (now (terms .entry)))) c i ≤ gradeIn (grading logic (termsOf (now (terms .entry)))) c j) ⌝ }
 {
     if marks[c] == 1 {
@@ -116,7 +116,7 @@ fn narrow_marked(
 // By the types of all marked candidates.
 fn narrow_all(terms: &[u8], logic: Logic, marks: &[u8], count: usize, sets: &mut [u64])
     requires { ⌜ TermsRight (now terms) ⌝ }
-    requires { ⌜ (termCount (now terms) ≤ 64) × (termCount (now terms) ≤ length (now sets)) × (count ≤ length (now marks)) ⌝ }
+    requires { ⌜ (termCount (now terms) ≤ 64) × (termCount (now terms) ≤ length (now sets)) × (count ≤ length (now marks)) × (count ≤ 16384) ⌝ }
     ensures { λ _. ⌜ Narrowed (termCount (now (terms .entry))) (now (sets .entry)) (now (sets .exit)) (λ i j. (d : ℕ) → d < count → Marked (now (marks .entry)) d → gradeIn (grading logic (termsOf (now (terms .entry)))) d i ≤ gradeIn (grading logic (termsOf (now (terms .entry)))) d j) ⌝ }
 {
     let homes = places::find_homes(terms);
@@ -171,7 +171,7 @@ fn write_sets(sets: &[u64], n: usize, table: &mut [u8])
 // Fills the table of the marked candidates' types; the bytes past it are kept.
 pub fn fill_table(terms: &[u8], logic: Logic, marks: &[u8], count: usize, table: &mut [u8])
     requires { ⌜ TermsRight (now terms) ⌝ }
-    requires { ⌜ (termCount (now terms) ≤ 64) × (count ≤ length (now marks)) × (termCount (now terms) * termCount (now terms) ≤ length (now table)) ⌝ }
+    requires { ⌜ (termCount (now terms) ≤ 64) × (count ≤ length (now marks)) × (termCount (now terms) * termCount (now terms) ≤ length (now table)) × (count ≤ 16384) ⌝ }
     ensures { λ _. ⌜ now (table .exit) ≡ impliedTable (grading logic (termsOf (now (terms .entry)))) (marked (now (marks .entry)) count) ++ drop (termCount (now (terms .entry)) * termCount (now (terms .entry))) (now (table .entry)) ⌝ }
 {
     let n = terms.len() / 3;

@@ -6,7 +6,7 @@ use borrow.Author.Needs.{needs}
 use Rattle.book.proofs.Opening.{right-ordered}
 use Rattle.book.proofs.Reading.{right-length}
 use Rattle.counter.specs.Counting.{candidateQuestions}
-use Rattle.counter.proofs.Counting.{counted-candidates}
+use Rattle.counter.proofs.Counting.{counted-candidates, counted-small}
 use Rattle.checker.proofs.Asking.{graded-first, graded-second, graded-both, terms-fit}
 use Rattle.checker.proofs.grade_counted.Statement.{statement}
 use Rattle.checker.proofs.grade_counted.Tie as tie
@@ -35,8 +35,9 @@ terms-in-requires c κs = right-ordered _ _ (c .before .before .before .before .
 
 grade-of-requires : tie.Need-grade-of-requires
 grade-of-requires c κs =
-    let h = terms-fit _ _ (c .before .before .before .before .before .before .pre .0) _ (c .terms-in .ensures) in
-    (h .0, (omega arith, omega arith))
+    let start = c .before .before .before .before .before .before in
+    let h = terms-fit _ _ (start .pre .0) _ (c .terms-in .ensures) in
+    (h .0, (omega arith, omega arith, omega (arith, counted-small _ _ (start .pre .1))))
 
 returns-3 : tie.Need-returns-3
 returns-3 c =

@@ -5,7 +5,7 @@ use native.Mathlib.Omega.{arith}
 use borrow.Author.Needs.{needs}
 use Rattle.book.proofs.Opening.{right-ordered}
 use Rattle.counter.specs.Counting.{candidateQuestions}
-use Rattle.counter.proofs.Counting.{counted-candidates}
+use Rattle.counter.proofs.Counting.{counted-candidates, counted-small}
 use Rattle.checker.proofs.Asking.{graded-first, graded-second, graded-both, terms-fit}
 use Rattle.checker.proofs.link_counted.Statement.{statement}
 use Rattle.checker.proofs.link_counted.Tie as tie
@@ -36,8 +36,10 @@ terms-in-requires c κs = right-ordered _ _ (c .before .before .before .before .
 
 link-of-requires : tie.Need-link-of-requires
 link-of-requires c κs =
-    let h = terms-fit _ _ (c .before .before .before .before .before .before .pre .0) _ (c .terms-in .ensures) in
-    (h .0, omega arith)
+    let start = c .before .before .before .before .before .before in
+    let h = terms-fit _ _ (start .pre .0) _ (c .terms-in .ensures) in
+    let few = counted-small _ _ (start .pre .1) in
+    (h .0, (omega arith, omega arith, omega arith))
 
 returns-4 : tie.Need-returns-4
 returns-4 c =

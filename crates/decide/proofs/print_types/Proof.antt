@@ -2,6 +2,7 @@
 -- Assumes nothing.
 use mathlib.Core.Path.{_≡_}
 use Prim.Native.Nat.{_≤_, _-_}
+use native.Mathlib.Omega.{arith}
 use lib.ListN.{length}
 use borrow.Author.Needs.{needs}
 use Rattle.decide.proofs.print_types.Statement.{statement}
@@ -29,7 +30,9 @@ slice-aggregate-type-lines : tie.Need-slice-aggregate-type-lines Inv-loop μ-loo
 slice-aggregate-type-lines c = search needs
 
 type-lines-requires : tie.Need-type-lines-requires Inv-loop μ-loop
-type-lines-requires c κs = search needs
+type-lines-requires c κs =
+    let s = c .before .before .before .before .before .before .before in
+    (s .pre .0, ((s .pre .1 .0, s .pre .1 .1), (omega arith, omega arith, omega (arith, s .pre .1 .2))))
 
 slice-aggregate-write : tie.Need-slice-aggregate-write Inv-loop μ-loop
 slice-aggregate-write c = search needs

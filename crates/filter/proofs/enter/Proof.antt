@@ -16,7 +16,9 @@ slice-aggregate-fill-row : tie.Need-slice-aggregate-fill-row
 slice-aggregate-fill-row c = search needs
 
 fill-row-requires : tie.Need-fill-row-requires
-fill-row-requires c κs = search needs
+fill-row-requires c κs =
+    let s = c .before .before .before .before .before .before .before .before in
+    (s .pre .0 .0 .terms-right, (s .pre .0 .0 .few-terms, omega (arith, s .pre .0 .0 .few-terms), s .pre .0 .1, omega (arith, s .pre .1 .1)))
 
 slice-aggregate-put-row : tie.Need-slice-aggregate-put-row
 slice-aggregate-put-row c = search needs

@@ -38,6 +38,9 @@ module _ (c : tie.At-loop Inv-loop μ-loop) where
   front : take (c .loop .i) (c .loop .row) ≡ table grade (c .loop .i)
   front = ap (take (c .loop .i)) (c .loop .inv .1) ∙ take-filled grade (entry .args .row .now) (c .loop .i)
 
+cast-rest : tie.Need-cast-rest Inv-loop μ-loop
+cast-rest c = search needs
+
 loop-holds : tie.Need-loop-holds Inv-loop μ-loop
 loop-holds c = (omega arith, zero-filled _ _, rest-start _ _ _)
 
@@ -103,6 +106,7 @@ fill-row-spec =
     (tie.spec
     Inv-loop
     μ-loop
+    cast-rest
     loop-holds
     element-copy-out-home
     slice-reshare-prefix-term-grade

@@ -31,7 +31,7 @@ part-fill-row-end c = search needs
 fill-row-requires : tie.Need-fill-row-requires
 fill-row-requires c κs =
     let s = c .before .before .before in
-    (s .pre .0, (s .pre .1 .0, search needs, s .pre .1 .2))
+    (s .pre .0, (s .pre .1 .0, search needs, s .pre .1 .2, s .pre .1 .3))
 
 same-length : tie.Need-same-length
 same-length c = search needs

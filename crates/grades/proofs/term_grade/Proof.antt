@@ -2,14 +2,14 @@
 -- Assumes nothing.
 use mathlib.Core.Path.{_≡_, _∙_}
 use mathlib.Core.Logic.{_⊎_, inl, inr, ⊎-elim}
-use Prim.Native.Nat.{ℕ, _+_, _≤_, _<_}
+use Prim.Native.Nat.{ℕ, _+_, _/_, _%_, _≤_, _<_}
 use native.Mathlib.Omega.{arith}
 use lib.ListN.{length}
 use borrow.Author.Needs.{needs}
 use Rattle.sections.specs.Terms.{Described, kindAt, aAt, bAt, termsOf}
 use Rattle.sections.proofs.Terms.{range-kind}
-use Rattle.grades.proofs.OneTerm.{grade-kind, grade-place, rest-kind, rest-place}
-use Rattle.grades.specs.OneTerm.{restAfter}
+use Rattle.grades.proofs.OneTerm.{grade-kind, grade-place, grade-quantified, rest-kind, rest-place, rest-quantified}
+use Rattle.grades.specs.OneTerm.{nextGrade, restAfter}
 use Rattle.grades.proofs.term_grade.Statement.{statement}
 use Rattle.grades.proofs.term_grade.Tie as tie
 
@@ -27,6 +27,16 @@ module _ (c : tie.Start) where
   left k e n =
       rest-kind _ _ (c .args .terms .now) (c .args .earlier .now) (c .pre .1 .0) k e (λ z. ⊎-elim (λ l. omega (arith, l, z)) (λ l. omega arith) n)
       (λ z. ⊎-elim (λ l. omega (arith, l, z)) (λ l. omega arith) n) (λ z. ⊎-elim (λ l. omega (arith, l, z)) (λ l. omega arith) n)
+
+  -- a quantified one has the digit that it takes off
+  taken : (k : ℕ) → kindAt (c .args .terms .now) number ≡ k → 4 ≤ k → k ≤ 5
+      → let base : ℕ = c .args .logic .steps + 1 in
+      (c .args .rest % base ≡ nextGrade (c .args .logic) (c .args .rest % base) (c .args .home) (c .args .terms .now) (c .args .earlier .now))
+      × (c .args .rest / base ≡ restAfter base (termsOf (c .args .terms .now)) number (c .args .rest))
+  taken k e low high = (
+    grade-quantified (c .args .terms .now) (c .args .earlier .now) (c .pre .1 .0) (omega arith) (omega arith) _ _ _ (c .pre .1 .2),
+    rest-quantified (c .args .terms .now) (c .args .earlier .now) (c .pre .1 .0) (omega arith) (omega arith) _ _,
+  )
 
 mul-kind : tie.Need-mul-kind
 mul-kind c = search needs
@@ -76,8 +86,14 @@ disjunction-requires c κs =
     let s = c .before .before .before .before .before .before in
     omega (arith, c .before .child-grade4 .ensures, s .pre .1 .1 (aAt (s .args .terms .now) (number s)))
 
-place-grade-requires : tie.Need-place-grade-requires
-place-grade-requires c κs = search needs
+digit-grade-requires : tie.Need-digit-grade-requires
+digit-grade-requires c κs = search needs
+
+digit-grade-requires-2 : tie.Need-digit-grade-requires-2
+digit-grade-requires-2 c κs = search needs
+
+name-grade-requires : tie.Need-name-grade-requires
+name-grade-requires c κs = search needs
 
 returns : tie.Need-returns
 returns c =
@@ -108,10 +124,20 @@ returns-5 c = (grade-kind _ _ _ _ _ 7 (c .match .keys5), left (c .before .before
 
 returns-6 : tie.Need-returns-6
 returns-6 c =
+    let w = taken (c .before .before .before .before .before) 4 (c .before .match .keys6) (omega arith) (omega arith) in
+    (c .digit-grade .ensures .0 ∙ w .0, c .digit-grade .ensures .1 ∙ w .1)
+
+returns-7 : tie.Need-returns-7
+returns-7 c =
+    let w = taken (c .before .before .before .before .before) 5 (c .before .match .keys7) (omega arith) (omega arith) in
+    (c .digit-grade2 .ensures .0 ∙ w .0, c .digit-grade2 .ensures .1 ∙ w .1)
+
+returns-8 : tie.Need-returns-8
+returns-8 c =
     let s = c .before .before .before .before .before in
-    let n = c .before .match .rest in (
-      c .place-grade .ensures .0 ∙ grade-place _ _ _ _ _ (s .pre .0) (s .pre .1 .0) (n .0 .0 .0 .0 .1) (n .0 .0 .0 .1) (n .0 .0 .1) (n .0 .1) (n .1),
-      c .place-grade .ensures .1
+    let n = c .before .match .rest .0 .0 in (
+      c .name-grade .ensures .0 ∙ grade-place _ _ _ _ _ (s .pre .0) (s .pre .1 .0) (n .0 .0 .0 .0 .1) (n .0 .0 .0 .1) (n .0 .0 .1) (n .0 .1) (n .1),
+      c .name-grade .ensures .1
           ∙ rest-place _ _ _ _ (s .pre .1 .0) _ (s .pre .0) (s .pre .1 .2) (n .0 .0 .0 .0 .1) (n .0 .0 .0 .1) (n .0 .0 .1) (n .0 .1) (n .1),
     )
 
@@ -133,10 +159,14 @@ term-grade-spec =
     child-grade-requires-4
     child-grade-requires-5
     disjunction-requires
-    place-grade-requires
+    digit-grade-requires
+    digit-grade-requires-2
+    name-grade-requires
     returns
     returns-2
     returns-3
     returns-4
     returns-5
-    returns-6)
+    returns-6
+    returns-7
+    returns-8)

@@ -33,6 +33,7 @@ fill-table-requires c κs =
         subst (λ (l : List ℕ). termCount l ≤ 64) (sym are) (omega (arith, few, count)),
         omega (arith, c .before .before .before .before .before .before .mark-checked .kept, s .pre .1 .0 .2),
         subst (λ (n : ℕ). n ≤ length (s .args .table .now)) (size-is (s .args .b .now) (s .args .s) (s .pre .0) _ are) (s .pre .1 .1),
+        s .pre .1 .0 .1,
       ),
     )
 

@@ -38,7 +38,7 @@ number-requires c κs = search needs
 put-row-requires : tie.Need-put-row-requires Inv-loop μ-loop
 put-row-requires c κs =
     let s = c .before .before .before .before .before .before .before .before .before .before in
-    (s .pre .0, (s .pre .1 .0, omega (arith, c .before .before .before .before .loop-test .taken, c .before .before .before .before .before .loop .inv .1, s .pre .1), c .before .before .before .before .before .before .find-homes .ensures))
+    (s .pre .0, (s .pre .1 .0, omega (arith, c .before .before .before .before .loop-test .taken, c .before .before .before .before .before .loop .inv .1, s .pre .1), c .before .before .before .before .before .before .find-homes .ensures, omega (arith, c .before .before .number .ensures .1)))
 
 add-e : tie.Need-add-e Inv-loop μ-loop
 add-e c = search needs
@@ -56,7 +56,7 @@ loop-again c =
       omega arith,
       f .kept .1 .1 .1 .0 ∙ t .inv .1,
       each-row-more (λ e. HasGrades G (getD (a .types .now) e 0)) (t .e) (t .rows) rows (f .ensures .0) (t .inv .2)
-          (subst (λ (x : ℕ). HasGrades G x (rowAt rows (t .e))) (c .before .before .before .before .before .number .ensures) (f .ensures .1)),
+          (subst (λ (x : ℕ). HasGrades G x (rowAt rows (t .e))) (c .before .before .before .before .before .number .ensures .0) (f .ensures .1)),
     )
 
 same-length : tie.Need-same-length Inv-loop μ-loop

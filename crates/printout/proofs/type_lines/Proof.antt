@@ -45,7 +45,7 @@ put-marked-requires : tie.Need-put-marked-requires Inv-loop μ-loop
 put-marked-requires c κs =
     let t = c .before .before .before in
     let s = c .before .before .before .before .before .before .before .before in
-    ((s .pre .0, t .before .find-homes .ensures), (s .pre .1 .0, (omega arith, omega arith)))
+    ((s .pre .0, t .before .find-homes .ensures), (s .pre .1 .0, (omega arith, omega arith, omega arith)))
 
 add-i : tie.Need-add-i Inv-loop μ-loop
 add-i c = search needs

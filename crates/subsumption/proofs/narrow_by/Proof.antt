@@ -13,7 +13,9 @@ slice-aggregate-fill-row : tie.Need-slice-aggregate-fill-row
 slice-aggregate-fill-row c = search needs
 
 fill-row-requires : tie.Need-fill-row-requires
-fill-row-requires c κs = search needs
+fill-row-requires c κs =
+    let s = c .before .before .before in
+    (s .pre .0 .0, (s .pre .1 .0, omega arith, s .pre .0 .1, omega (arith, s .pre .1 .2)))
 
 array-share-prefix-row : tie.Need-array-share-prefix-row
 array-share-prefix-row c = search needs
