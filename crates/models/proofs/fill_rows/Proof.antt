@@ -37,8 +37,16 @@ number-requires c κs = search needs
 
 put-row-requires : tie.Need-put-row-requires Inv-loop μ-loop
 put-row-requires c κs =
-    let s = c .before .before .before .before .before .before .before .before .before .before in
-    (s .pre .0, (s .pre .1 .0, omega (arith, c .before .before .before .before .loop-test .taken, c .before .before .before .before .before .loop .inv .1, s .pre .1), c .before .before .before .before .before .before .find-homes .ensures, omega (arith, c .before .before .number .ensures .1)))
+    let t = c .before .before .before .before in
+    let s = t .before .before .before .before .before .before in (
+      s .pre .0,
+      (
+        s .pre .1 .0,
+        omega (arith, t .loop-test .taken, t .before .loop .inv .1, s .pre .1),
+        t .before .before .find-homes .ensures,
+        omega (arith, c .before .before .number .ensures .1),
+      ),
+    )
 
 add-e : tie.Need-add-e Inv-loop μ-loop
 add-e c = search needs

@@ -33,8 +33,11 @@ loop-holds c =
 narrow-marked-requires : tie.Need-narrow-marked-requires Inv-loop μ-loop
 narrow-marked-requires c κs =
     let t = c .before .before .before .loop in
-    let s = c .before .before .before .before .before .before .before .before in
-    ((s .pre .0, c .before .before .before .before .find-homes .ensures), (s .pre .1 .0, omega (arith, t .inv .1, s .pre .1 .1), omega (arith, c .before .before .loop-test .taken, s .pre .1 .2), omega (arith, c .before .before .loop-test .taken, s .pre .1 .3)))
+    let l = c .before .before .loop-test .taken in
+    let s = c .before .before .before .before .before .before .before .before in (
+      (s .pre .0, c .before .before .before .before .find-homes .ensures),
+      (s .pre .1 .0, omega (arith, t .inv .1, s .pre .1 .1), omega (arith, l, s .pre .1 .2), omega (arith, l, s .pre .1 .3)),
+    )
 
 add-c : tie.Need-add-c Inv-loop μ-loop
 add-c c =
