@@ -1,4 +1,7 @@
 // Arc consistency over the domains of the individuals, under the constraints of the link claims.
+
+#![tactic(auto)]
+
 ghost use Rattle.std.specs.Prelude.{◌≡◌, ◌+◌, ◌*◌, ◌<◌, ◌≤◌, length};
 ghost use Rattle.network.specs.Constraints.{constraint_count, AllRight};
 ghost use Rattle.domains.specs.Gaps.{Gaps};

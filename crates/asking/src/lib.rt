@@ -1,5 +1,8 @@
 // The grade of a term in a candidate, and the link of two candidates: entry points, each of which takes a book's bytes as they come and refuses with
 // the number of the first check that says no; and beside each the same on the bytes and sections of a book that is opened.
+
+#![tactic(auto)]
+
 ghost use Rattle.std.specs.Prelude.{◌≡◌};
 ghost use Rattle.chain.specs.Questions.{first_no};
 ghost use Rattle.book.specs.Opening.{Right};
@@ -12,7 +15,7 @@ use counter::Counted;
 use layout::Sections;
 
 // The number of the first check that says no, or a grade.
-#[derive(Drop)]
+#[derive(Clone, Copy)]
 pub enum Answer {
     Refused(u8),
     Grade(u8),

@@ -1,4 +1,7 @@
 // Opens a book: its head and layout are checked here, each body by its section's own checker.
+
+#![tactic(auto)]
+
 ghost use Rattle.std.specs.Prelude.{◌≡◌, ◌≤◌};
 ghost use Rattle.chain.specs.Questions.{first_no};
 ghost use Rattle.sections.specs.Terms.{terms_of};
@@ -11,7 +14,7 @@ use gradings::Logic;
 use layout::Sections;
 
 // A, R and I: how many names, roles and individuals a book has.
-#[derive(Drop)]
+#[derive(Clone, Copy)]
 pub struct Counts {
     pub names: usize,
     pub roles: usize,
@@ -19,7 +22,7 @@ pub struct Counts {
 }
 
 // The number of the first check that says no, or the sections.
-#[derive(Drop)]
+#[derive(Clone, Copy)]
 pub enum Opened {
     Refused(u8),
     Accepted(Sections),

@@ -1,1 +1,4 @@
 // Books by their bytes: definitions and laws alone, no code.
+
+#![tactic(auto)]
+

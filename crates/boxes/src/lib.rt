@@ -1,4 +1,7 @@
 // Boxes: the rows that lie within bounds on the grades in their columns.
+
+#![tactic(auto)]
+
 ghost use Rattle.std.specs.Prelude.{ℕ, ◌+◌, ◌*◌, ◌<◌, ◌≤◌, length};
 ghost use Rattle.chain.specs.Decisions.{Tells};
 ghost use Rattle.boxes.specs.Boxes.{Within, bound_count, bound_at, Inside, Narrowed};
@@ -7,7 +10,7 @@ use encoding::wide;
 use gradings::Logic;
 
 // The grades that a row may have in a column: from `low` to `high`.
-#[derive(Drop)]
+#[derive(Clone, Copy)]
 pub struct Bound {
     pub column: u8,
     pub low: u8,

@@ -1,4 +1,7 @@
 // What stands on a sheet: an individual's element and a link between two elements. And whether a verdict is "meets".
+
+#![tactic(auto)]
+
 ghost use Rattle.std.specs.Prelude.{◌≡◌, ◌+◌, ◌*◌, ◌<◌, ◌≤◌, length};
 ghost use Rattle.chain.specs.Decisions.{Tells};
 ghost use Rattle.working.specs.declared.Verdict.TheVariants.{Meets};

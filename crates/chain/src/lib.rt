@@ -1,1 +1,4 @@
 // The chain of grades and the connectives on it: definitions in specs/, their laws in proofs/.
+
+#![tactic(auto)]
+

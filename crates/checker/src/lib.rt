@@ -1,5 +1,8 @@
 // Working out a sheet: the entry point, which takes a book's bytes as they come and refuses with the number of the first check that says no; and
 // beside it the same on the bytes and sections of a book that is opened.
+
+#![tactic(auto)]
+
 ghost use Rattle.std.specs.Prelude.{◌≡◌, ◌++◌, ◌≤◌, length, drop};
 ghost use Rattle.chain.specs.Questions.{first_no};
 ghost use Rattle.book.specs.Opening.{Right};
@@ -17,7 +20,7 @@ use sheets::Sheet;
 use working::Verdict;
 
 // The number of the first check that says no, or the verdict on the book's rules, pairs and claims.
-#[derive(Drop)]
+#[derive(Clone, Copy)]
 pub enum Worked {
     Refused(u8),
     Says(Verdict),

@@ -1,4 +1,7 @@
 // The rules, pairs and claims of a book, each section checked over its own stretch of bytes: the checks 7, 22, 8 and 9.
+
+#![tactic(auto)]
+
 ghost use Rattle.std.specs.Prelude.{◌<◌};
 ghost use Rattle.chain.specs.Decisions.{Tells};
 ghost use Rattle.claims.specs.Rules.{rule_count, RuleRight, RulesRight};

@@ -1,4 +1,7 @@
 // Whether a sheet meets a book's claims, and if not the first that is broken.
+
+#![tactic(auto)]
+
 ghost use Rattle.std.specs.Prelude.{◌≡◌, ◌<◌, ◌≤◌};
 ghost use Rattle.chain.specs.Decisions.{Tells};
 ghost use Rattle.semantics.specs.Books.{membership_individuals, MeetsLink};

@@ -1,4 +1,7 @@
 // A claim as a value: its four bytes, whom it mentions, and whether a grade meets it.
+
+#![tactic(auto)]
+
 ghost use Rattle.std.specs.Prelude.{◌≡◌, ℕ, ◌<◌, ◌≤◌};
 ghost use Rattle.chain.specs.Decisions.{Tells};
 ghost use Rattle.semantics.specs.Books.{Claimed, Mentions, membership_individuals, link_individuals};
@@ -10,7 +13,7 @@ use encoding::{above_bits, bit, wide};
 pub const SETS: u8 = 2;
 
 // A membership claim's bytes: whom it names, an individual or a set, its term, its sense and the grade claimed.
-#[derive(Drop)]
+#[derive(Clone, Copy)]
 pub struct MembershipRecord {
     pub named: u8,
     pub term: u8,
@@ -19,7 +22,7 @@ pub struct MembershipRecord {
 }
 
 // A link claim's.
-#[derive(Drop)]
+#[derive(Clone, Copy)]
 pub struct LinkRecord {
     pub role: u8,
     pub source: u8,

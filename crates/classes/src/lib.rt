@@ -1,4 +1,7 @@
 // Thinning: of the candidates that look alike to the constraints between an individual and the others, the first is kept.
+
+#![tactic(auto)]
+
 ghost use Rattle.std.specs.Prelude.{◌≡◌, ℕ, ◌+◌, ◌<◌, ◌≤◌, length, get_or};
 ghost use Rattle.chain.specs.Decisions.{Tells};
 ghost use Rattle.domains.specs.Consistent.{Problem};

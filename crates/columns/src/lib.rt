@@ -1,4 +1,7 @@
 // Columns of grades: what a quantified term takes from a row of links beside the column of its child's grades.
+
+#![tactic(auto)]
+
 ghost use Rattle.std.specs.Prelude.{◌≡◌, ℕ, ◌+◌, ◌*◌, ◌<◌, ◌≤◌, length, get_or, take, drop};
 ghost use Rattle.chain.specs.Connectives.{neutral as neutralOf, join as join_of};
 ghost use Rattle.sections.specs.Terms.{quantifier_of};

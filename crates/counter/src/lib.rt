@@ -1,4 +1,7 @@
 // Counts a book's candidates.
+
+#![tactic(auto)]
+
 ghost use Rattle.std.specs.Prelude.{◌≡◌};
 ghost use Rattle.chain.specs.Questions.{first_no};
 ghost use Rattle.book.specs.Opening.{Right};
@@ -9,7 +12,7 @@ use layout::Sections;
 use powers::Power;
 
 // The number of the first check that says no, or how many candidates there are.
-#[derive(Drop)]
+#[derive(Clone, Copy)]
 pub enum Counted {
     Refused(u8),
     Candidates(u64),

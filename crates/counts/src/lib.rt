@@ -1,4 +1,7 @@
 // How many names, roles and individuals a book's sections have: one more than the highest, or 0.
+
+#![tactic(auto)]
+
 ghost use Rattle.std.specs.Prelude.{◌≡◌, suc, ◌<◌, max};
 ghost use Rattle.chain.specs.Lists.{highest};
 ghost use Rattle.semantics.specs.Books.{name_above, role_above, link_roles, pair_roles, membership_individuals, link_individuals};

@@ -1,5 +1,8 @@
 // The program `decide`: reads a book from standard input, decides it and prints the decision. The text of every line is proved in `printout`;
 // here the lines are written, in order.
+
+#![tactic(auto)]
+
 ghost use Rattle.std.specs.Prelude.{◌≡◌, ◌*◌, ◌<◌, ◌≤◌, min, length};
 ghost use Rattle.sections.specs.Terms.{term_count, TermsRight};
 ghost use Rattle.book.specs.Opening.{Right};

@@ -1,4 +1,7 @@
 // Decides a book: the survivors by elimination, then the first placement of its individuals at them.
+
+#![tactic(auto)]
+
 ghost use Rattle.std.specs.Prelude.{◌≡◌, ◌<◌, length};
 ghost use Rattle.chain.specs.Questions.{first_no};
 ghost use Rattle.book.specs.Opening.{Right};

@@ -4,7 +4,7 @@ use decisions::Decision;
 use working::Verdict;
 use written::Written;
 
-#[derive(Drop)]
+#[derive(Clone, Copy)]
 pub struct Answer {
     pub number: usize,
     pub first: usize,

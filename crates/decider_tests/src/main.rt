@@ -1,6 +1,9 @@
 // Runs the books of its input through the deciding entry points, and compares answers and buffers with what the input expects. A line of the
 // input starts with its sort: `=` the title of a group, `book` a book in hexadecimal, `decide`, `sheet` and `link` a case on the book before.
 // Any other line is a remark.
+
+#![tactic(auto)]
+
 mod answers;
 mod buffers;
 mod runs;
@@ -12,7 +15,7 @@ use reports::tally::Tally;
 use reports::{tally, text};
 
 // The book's length, where the title of the group stands, and the cases of the group and of all.
-#[derive(Drop)]
+#[derive(Clone, Copy)]
 struct State {
     book: usize,
     from: usize,

@@ -1,4 +1,7 @@
 // What deciding answers where the rules have a model: the individuals are placed, and the placement is written if there is one.
+
+#![tactic(auto)]
+
 ghost use Rattle.std.specs.Prelude.{◌≡◌, ◌*◌, ◌<◌, ◌≤◌, length, take, drop};
 ghost use mathlib.Core.List.{◌++◌, flat_map};
 ghost use Rattle.encoding.specs.Words.{word_bytes};
@@ -15,7 +18,7 @@ use gradings::Logic;
 use layout::Sections;
 
 // The number of the first check that says no, or the outcome and the number of survivors.
-#[derive(Drop)]
+#[derive(Clone, Copy)]
 pub enum Decision {
     Refused(u8),
     Decided(u8, usize),

@@ -1,4 +1,7 @@
 // The domains of the individuals: the candidates that each may have, as a table.
+
+#![tactic(auto)]
+
 ghost use Rattle.std.specs.Prelude.{◌+◌, ◌<◌, ◌≤◌, length};
 ghost use Rattle.chain.specs.Decisions.{Tells};
 ghost use Rattle.domains.specs.Tables.{Lacks, Vain};

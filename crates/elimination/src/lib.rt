@@ -1,1 +1,4 @@
 // Type elimination: the largest sound set of candidates. Definitions in specs/, the theorems in proofs/.
+
+#![tactic(auto)]
+

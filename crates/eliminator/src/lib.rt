@@ -1,4 +1,7 @@
 // Type elimination: marks the survivors of a book's terms and rules.
+
+#![tactic(auto)]
+
 ghost use Rattle.std.specs.Prelude.{◌≡◌, ◌++◌, ℕ, ◌≤◌, length, get_or, drop};
 ghost use Rattle.sections.specs.Terms.{terms_of};
 ghost use Rattle.claims.specs.Rules.{rules_of};

@@ -1,4 +1,7 @@
 // Bytes as numbers, numbers of two bytes, and the bits of a byte.
+
+#![tactic(auto)]
+
 ghost use Rattle.std.specs.Prelude.{◌≡◌, suc, ◌+◌, ◌<◌, length};
 ghost use Rattle.std.proofs.lemmas.List.Edits.{sets};
 ghost use Rattle.chain.specs.Decisions.{Tells};

@@ -1,4 +1,7 @@
 // Entering a candidate: its first mark, by the rules alone, its source and its target.
+
+#![tactic(auto)]
+
 ghost use Rattle.std.specs.Prelude.{◌≡◌, ◌+◌, ◌<◌, ◌≤◌, length, take, drop};
 ghost use Rattle.sections.specs.Terms.{terms_of};
 ghost use Rattle.claims.specs.Rules.{rules_of};
@@ -15,7 +18,7 @@ use rule_marks::mark_by_rules;
 use slots::put_slot_row;
 
 // How many marks, sources and targets there are so far.
-#[derive(Drop)]
+#[derive(Clone, Copy)]
 pub struct Tally {
     pub left: usize,
     pub sources: usize,

@@ -1,4 +1,7 @@
 // The filter: the candidates that each individual may have by the claims that mention it alone, and the rows of slots of the marked candidates.
+
+#![tactic(auto)]
+
 ghost use Rattle.std.specs.Prelude.{◌≡◌, ◌↔◌, ℕ, ◌*◌, ◌<◌, ◌≤◌, length, get_or};
 ghost use Rattle.semantics.specs.Books.{Mentions};
 ghost use Rattle.claims.specs.Claims.{claim_count, membership_of, membership_at};

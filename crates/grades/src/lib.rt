@@ -1,4 +1,7 @@
 // Grades of terms in candidates, by rows: a candidate's type is the row of its grades.
+
+#![tactic(auto)]
+
 ghost use Rattle.std.specs.Prelude.{◌≡◌, ◌++◌, ℕ, ◌+◌, ◌*◌, ◌/◌, ◌%◌, ◌<◌, ◌≤◌, length, get_or, take, drop};
 ghost use Rattle.types.specs.Candidates.{home as home_of, grade_in};
 ghost use Rattle.gradings.specs.Gradings.{grading};
@@ -24,7 +27,7 @@ pub fn child_grade(terms: &[u8], at: usize, row: &[u8]) -> u8
 // ---- the row of a candidate
 
 // A term's grade, and what it leaves of a candidate's digits: 32 bits, which are divided faster than 64.
-#[derive(Drop)]
+#[derive(Clone, Copy)]
 pub struct Graded {
     pub grade: u8,
     pub rest: u32,

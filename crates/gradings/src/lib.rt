@@ -1,4 +1,7 @@
 // What grades are worked out by, beside the terms, as one value: the chain's steps, its connectives over bytes, and whose terms bound a link.
+
+#![tactic(auto)]
+
 ghost use Rattle.std.specs.Prelude.{◌≡◌, List, [], ◌+◌, ◌≤◌, ◌<◌};
 ghost use Rattle.chain.specs.Decisions.{Tells};
 ghost use Rattle.chain.specs.Connectives.{existential, universal, through as throughOf, Permits, Wants, Bounds};
@@ -13,7 +16,7 @@ use encoding::wide;
 
 // A request that changes how grades are worked out adds a field here, and no parameter anywhere. It stands for a `Grading` by `grading` of
 // specs/Gradings. Its steps are those that grades are worked out on; a book has its own number, which its checks go by.
-#[derive(Drop)]
+#[derive(Clone, Copy)]
 pub struct Logic {
     pub steps: u8,
     // byte 8 r + t is 1 where role t is reached from role r

@@ -1,4 +1,7 @@
 // The grid: rows of elements, from columns of terms.
+
+#![tactic(auto)]
+
 ghost use Rattle.std.specs.Prelude.{◌≡◌, ◌++◌, ◌+◌, ◌*◌, ◌<◌, ◌≤◌, length, drop};
 ghost use Rattle.chain.specs.Lists.{table};
 ghost use Rattle.columns.specs.Columns.{cell_at, rows_of};

@@ -1,4 +1,7 @@
 // The grades of all terms at all elements of a sheet.
+
+#![tactic(auto)]
+
 ghost use Rattle.std.specs.Prelude.{◌≡◌, List, ℕ, ◌+◌, ◌*◌, ◌<◌, ◌≤◌, length, get_or};
 ghost use Rattle.sections.specs.Terms.{term_of, term_count, term_at, Described};
 ghost use Rattle.columns.specs.Columns.{cell_at, column_count};

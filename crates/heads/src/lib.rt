@@ -1,4 +1,7 @@
 // The head of a book: what its edition says, and the checks 1 to 4.
+
+#![tactic(auto)]
+
 ghost use Rattle.std.specs.Prelude.{◌≡◌, ◌<◌, length};
 ghost use Rattle.chain.specs.Decisions.{Tells};
 ghost use Rattle.heads.specs.Heads.{edition, by_edition, head, Headed, count_of_pairs, LengthRight, EditionRight, StepsRight, CountsRight};

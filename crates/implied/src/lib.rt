@@ -1,4 +1,7 @@
 // The table of implied rules: which terms' grades never exceed which others', in any finite interpretation that meets a book's rules and pairs.
+
+#![tactic(auto)]
+
 ghost use Rattle.std.specs.Prelude.{◌≡◌, ◌++◌, ◌*◌, ◌≤◌, length, drop};
 ghost use Rattle.chain.specs.Questions.{first_no};
 ghost use Rattle.types.specs.Candidates.{candidates};
@@ -16,7 +19,7 @@ use counter::Counted;
 use layout::Sections;
 
 // The number of the first check that says no, or the number of survivors.
-#[derive(Drop)]
+#[derive(Clone, Copy)]
 pub enum Implied {
     Refused(u8),
     Survivors(usize),

@@ -1,4 +1,7 @@
 // The layout of a book's bodies, and each section as the stretch that its entry names.
+
+#![tactic(auto)]
+
 ghost use Rattle.std.specs.Prelude.{◌≡◌, ◌≤◌};
 ghost use Rattle.chain.specs.Decisions.{Tells};
 ghost use Rattle.heads.specs.Heads.{edition, offset_at, Headed};
@@ -8,7 +11,7 @@ use encoding::word;
 use heads::{count_pairs, head_of};
 
 // The book's own N, which its checks go by, where each body begins, and where the last ends. The pairs of edition 1 are none, at the end.
-#[derive(Drop)]
+#[derive(Clone, Copy)]
 pub struct Sections {
     pub steps: u8,
     pub terms: usize,

@@ -1,5 +1,8 @@
 // The link claims read once: for each role and pair of individuals the strongest claim of a link that the role's terms bound. And the rows of slots
 // that are compared by them.
+
+#![tactic(auto)]
+
 ghost use Rattle.std.specs.Prelude.{◌≡◌, ℕ, ◌+◌, ◌*◌, ◌<◌, ◌≤◌, length, get_or, take};
 ghost use Rattle.claims.specs.Claims.{claim_count};
 ghost use Rattle.slots.specs.Slots.{slot_count};

@@ -1,4 +1,7 @@
 // Marks the survivors of an accepted book, where its marks suffice; and what that and placing are equipped with.
+
+#![tactic(auto)]
+
 ghost use Rattle.std.specs.Prelude.{◌≡◌, ◌*◌, ◌≤◌, length, take};
 ghost use Rattle.types.specs.Candidates.{candidates};
 ghost use Rattle.sections.specs.Terms.{terms_of};

@@ -1,4 +1,7 @@
 // The link claims as a network of constraints between individuals: of each ordered pair, what the quantified terms ask of the two rows of slots.
+
+#![tactic(auto)]
+
 ghost use Rattle.std.specs.Prelude.{◌≡◌, List, ℕ, ◌+◌, ◌*◌, ◌<◌, ◌≤◌, length, get_or};
 ghost use Rattle.chain.specs.Decisions.{Tells};
 ghost use Rattle.slots.specs.Slots.{slot_count, slot_role};
@@ -13,7 +16,7 @@ use levels::note_claims;
 
 // What a slot of this kind, 4 "some" or 5 "all", asks through a link of this level: of the columns of the two rows that have its own grade and its
 // child's.
-#[derive(Drop)]
+#[derive(Clone, Copy)]
 pub struct Constraint {
     pub kind: u8,
     pub level: u8,

@@ -1,4 +1,7 @@
 // The answers as numbers, for callers in C: each a struct of numbers, by value.
+
+#![tactic(auto)]
+
 ghost use Rattle.std.specs.Prelude.{◌≡◌, length};
 ghost use Rattle.numbers.specs.Numbers.{checked_number, counted_numbers, decided_numbers, implied_numbers, written_numbers, verdict_numbers, worked_numbers, graded_numbers};
 
@@ -14,14 +17,14 @@ use written::Written;
 // In each struct the refusal is 0 if the call is answered, and else the other fields are 0.
 
 #[repr(C)]
-#[derive(Drop)]
+#[derive(Clone, Copy)]
 pub struct CountedNumbers {
     pub refusal: u8,
     pub candidates: u64,
 }
 
 #[repr(C)]
-#[derive(Drop)]
+#[derive(Clone, Copy)]
 pub struct DecidedNumbers {
     pub refusal: u8,
     pub outcome: u8,
@@ -29,14 +32,14 @@ pub struct DecidedNumbers {
 }
 
 #[repr(C)]
-#[derive(Drop)]
+#[derive(Clone, Copy)]
 pub struct ImpliedNumbers {
     pub refusal: u8,
     pub survivors: usize,
 }
 
 #[repr(C)]
-#[derive(Drop)]
+#[derive(Clone, Copy)]
 pub struct WrittenNumbers {
     pub refusal: u8,
     pub length: usize,
@@ -45,7 +48,7 @@ pub struct WrittenNumbers {
 // The verdict is 0 for "meets", 1 for a rule broken, 2 for a membership claim, 3 for a link claim, 4 for a pair; then the number of that one, for a
 // rule the lowest element, and for a pair the lowest first and then second element.
 #[repr(C)]
-#[derive(Drop)]
+#[derive(Clone, Copy)]
 pub struct WorkedNumbers {
     pub refusal: u8,
     pub verdict: u8,
@@ -55,7 +58,7 @@ pub struct WorkedNumbers {
 }
 
 #[repr(C)]
-#[derive(Drop)]
+#[derive(Clone, Copy)]
 pub struct GradedNumbers {
     pub refusal: u8,
     pub grade: u8,

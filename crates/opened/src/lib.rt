@@ -1,6 +1,9 @@
 // An opened book remembers the bytes it was opened from, so later questions need no second opening. Each question takes it apart and calls
 // the function on bytes and sections; what it answers and writes is what the call on bytes answers and writes. No check of the book
 // is made again: a question requires `Right`, which says that they all said yes and that these are the book's sections. `book::open` gives it.
+
+#![tactic(auto)]
+
 ghost use Rattle.std.specs.Prelude.{◌≡◌, length};
 ghost use Rattle.book.specs.Opening.{Right};
 ghost use Rattle.counter.specs.Counting.{counted_of};
@@ -18,7 +21,7 @@ use implied::Implied;
 use layout::Sections;
 use written::Written;
 
-#[derive(Drop)]
+#[derive(Clone, Copy)]
 pub struct Book<'a> {
     pub bytes: &'a [u8],
     pub sections: Sections,

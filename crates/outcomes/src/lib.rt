@@ -1,4 +1,7 @@
 // Decides an accepted book, where its buffers suffice: the survivors by elimination, then the first placement of its individuals at them.
+
+#![tactic(auto)]
+
 ghost use Rattle.std.specs.Prelude.{◌≡◌, true, ◌*◌, ◌<◌, ◌≤◌, length};
 ghost use Rattle.types.specs.Candidates.{candidates};
 ghost use Rattle.book.specs.Opening.{Right};

@@ -1,5 +1,8 @@
 // Classes of candidates with equal rows, numbered in the order in which they occur: a table of rows, 16 bytes each, and an index by which the
 // class of a row is found.
+
+#![tactic(auto)]
+
 ghost use Rattle.std.specs.Prelude.{◌≡◌, ℕ, ◌+◌, ◌*◌, ◌<◌, ◌≤◌, length, get_or};
 ghost use Rattle.chain.specs.Decisions.{Tells};
 ghost use Rattle.partition.specs.Rows.{IsRow, KeptRows, Names, Enrolled};

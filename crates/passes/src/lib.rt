@@ -1,4 +1,7 @@
 // One sweep over the marked candidates, by classes: the sources that want a witness are judged, and their candidates unmarked.
+
+#![tactic(auto)]
+
 ghost use Rattle.std.specs.Prelude.{◌≡◌, ℕ, ◌+◌, ◌*◌, ◌<◌, ◌≤◌, length, get_or};
 ghost use Rattle.chain.specs.Search.{rank};
 ghost use Rattle.elimination.specs.Marks.{marked?};

@@ -1,4 +1,7 @@
 // Placing the individuals: the first placement in dictionary order at marked candidates that meets every claim.
+
+#![tactic(auto)]
+
 ghost use Rattle.std.specs.Prelude.{◌≡◌, true, ℕ, ◌-◌, ◌<◌, ◌≤◌, length, get_or, take, drop};
 ghost use Rattle.chain.specs.Decisions.{Tells};
 ghost use Rattle.levels.specs.Rows.{row_at};

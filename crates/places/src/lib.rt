@@ -1,4 +1,7 @@
 // The places among a section's terms: the term that opens each term's place, and how many candidates the places make.
+
+#![tactic(auto)]
+
 ghost use Rattle.std.specs.Prelude.{◌≡◌, [], ℕ, ◌+◌, ◌<◌, ◌≤◌, length, get_or};
 ghost use Rattle.chain.specs.Decisions.{Tells};
 ghost use Rattle.powers.specs.Bounded.{bounded};

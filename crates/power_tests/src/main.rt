@@ -1,4 +1,7 @@
 // Compares the proved powers with a second way, which divides and does not multiply: all chains of 1 to 255 steps and 0 to 64 places, and beyond.
+
+#![tactic(auto)]
+
 use powers::Power;
 use reports::tally;
 use reports::tally::{Tally, close, say, say_count, say_number};
@@ -45,7 +48,7 @@ fn is_exact(answer: Power) -> bool {
 }
 
 // The cases of one number of places, and how many answers are exact.
-#[derive(Drop)]
+#[derive(Clone, Copy)]
 struct Row {
     cases: Tally,
     exact: u64,

@@ -1,9 +1,12 @@
 // Powers of 1 to 256, exact up to 16384: how many candidates a book has, where they are few enough to decide.
+
+#![tactic(auto)]
+
 ghost use Rattle.std.specs.Prelude.{◌≡◌, ◌+◌, ◌^◌};
 ghost use Rattle.powers.specs.Bounded.{bounded};
 
 // A power that callers only need up to 16384.
-#[derive(Drop)]
+#[derive(Clone, Copy)]
 pub enum Power {
     Exactly(u64),
     More,

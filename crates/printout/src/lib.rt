@@ -1,4 +1,7 @@
 // The lines of the printout, added to a buffer one after another: each function takes a place in the buffer and answers the place after its text.
+
+#![tactic(auto)]
+
 ghost use Rattle.std.specs.Prelude.{◌≡◌, ℕ, ◌+◌, ◌*◌, ◌<◌, ◌≤◌, length, get_or};
 ghost use Rattle.std.proofs.Math.Logic.{ite};
 ghost use mathlib.Core.List.{List, [], ◌∷◌, ◌++◌, flat_map};

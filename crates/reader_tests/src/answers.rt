@@ -2,7 +2,7 @@
 use reports::tally;
 use reports::tally::{Tally, say_count};
 
-#[derive(Drop)]
+#[derive(Clone, Copy)]
 pub struct Answer {
     pub number: u8,
     pub candidates: u64,

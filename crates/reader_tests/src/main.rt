@@ -1,4 +1,7 @@
 // Runs right and damaged books through the proved reader, and compares its answers with those written by hand.
+
+#![tactic(auto)]
+
 mod answers;
 mod books;
 mod cases;

@@ -13,7 +13,7 @@ use std::num::{wrapping_add_u8, wrapping_sub_usize};
 // The answer that is expected of a row with too few or too many numbers: none.
 const NO_ANSWER: u8 = 98;
 
-#[derive(Drop)]
+#[derive(Clone, Copy)]
 pub enum Recipe {
     Sized,
     Empty,

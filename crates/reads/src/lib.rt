@@ -1,4 +1,7 @@
 // Which columns the constraints read of an individual.
+
+#![tactic(auto)]
+
 ghost use Rattle.std.specs.Prelude.{◌≡◌, ◌+◌, ◌<◌, ◌≤◌, length};
 ghost use Rattle.network.specs.Constraints.{constraint_count, AllRight};
 ghost use Rattle.network.specs.Network.{Wired};

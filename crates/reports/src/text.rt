@@ -5,7 +5,7 @@ use crate::numbers::wide;
 use std::num::wrapping_add_usize;
 
 // The numbers of a line; those past the last cell are only counted. `open` says that the last may have more digits.
-#[derive(Drop)]
+#[derive(Clone, Copy)]
 pub struct Row {
     pub cells: [usize; 16],
     pub count: usize,

@@ -1,5 +1,8 @@
 // The roles that are reached from each role upward, worked out from the pairs of a book: a table of 8 times 8 bytes, in which byte 8 r + s is 1 where
 // role s is reached from role r.
+
+#![tactic(auto)]
+
 ghost use Rattle.std.specs.Prelude.{◌≡◌, ℕ, ◌+◌, ◌<◌, ◌≤◌, length, get_or};
 ghost use Rattle.claims.specs.Pairs.{pair_count, pair_at, pairs_of, PairsRight};
 ghost use Rattle.roles.specs.Tables.{Reaches, Copied, Joined, JoinedWhere, Linked, Diagonal};

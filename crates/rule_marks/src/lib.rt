@@ -1,4 +1,7 @@
 // A candidate's first mark: whether its row of grades meets the rules.
+
+#![tactic(auto)]
+
 ghost use Rattle.std.specs.Prelude.{◌≡◌, ◌↔◌, ◌+◌, ◌<◌, ◌≤◌, length};
 ghost use Rattle.claims.specs.Rules.{RulesRight};
 ghost use Rattle.rule_marks.specs.Obeying.{RowObeys};

@@ -1,4 +1,7 @@
 // Whether a sheet meets a book's rules and pairs, and if not the first that is broken.
+
+#![tactic(auto)]
+
 ghost use Rattle.std.specs.Prelude.{◌≡◌, ◌+◌, ◌*◌, ◌<◌, ◌≤◌};
 ghost use Rattle.claims.specs.Rules.{rule_count, rule_at, rules_of, RuleRight, RulesRight};
 ghost use Rattle.claims.specs.Pairs.{pair_count, pair_at, pairs_of};

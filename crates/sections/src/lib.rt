@@ -1,4 +1,7 @@
 // The terms of a book, checked over their own stretch of bytes.
+
+#![tactic(auto)]
+
 ghost use Rattle.std.specs.Prelude.{◌<◌};
 ghost use Rattle.chain.specs.Decisions.{Tells};
 ghost use Rattle.sections.specs.Terms.{term_count, Described, TermRight, TermsRight};

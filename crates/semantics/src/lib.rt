@@ -1,1 +1,4 @@
 // What a graded rule book means, on abstract books: definitions in specs/, their laws in proofs/.
+
+#![tactic(auto)]
+

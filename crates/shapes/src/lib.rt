@@ -1,4 +1,7 @@
 // The head of a sheet and the layout of its bodies: the checks 13 and 14.
+
+#![tactic(auto)]
+
 ghost use Rattle.std.specs.Prelude.{◌≡◌, ◌≤◌, ◌<◌, length};
 ghost use Rattle.chain.specs.Decisions.{Tells};
 ghost use Rattle.shapes.specs.Layout.{shape_of, links_at, individuals_at, end_at, Indexable, CountsAgree, HeadRight, SheetLaidOut};
@@ -6,7 +9,7 @@ ghost use Rattle.shapes.specs.Layout.{shape_of, links_at, individuals_at, end_at
 use encoding::{wide, word};
 
 // The counts of a sheet: elements, names, roles, individuals.
-#[derive(Drop)]
+#[derive(Clone, Copy)]
 pub struct Shape {
     pub elements: usize,
     pub names: usize,

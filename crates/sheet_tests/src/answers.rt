@@ -5,7 +5,7 @@ use reports::tally::Tally;
 use working::Verdict;
 
 // With number 0, kind 0 is "meets", 1 a rule with its element, 2 a membership claim, 3 a link claim, 4 a grade, 5 a pair with its two elements.
-#[derive(Drop)]
+#[derive(Clone, Copy)]
 pub struct Answer {
     pub number: u8,
     pub kind: u8,

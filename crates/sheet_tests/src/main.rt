@@ -1,4 +1,7 @@
 // Runs sheets, grades and links through the proved entry points, and compares the answers and grids with those written by hand.
+
+#![tactic(auto)]
+
 mod answers;
 mod cases;
 mod recurring;

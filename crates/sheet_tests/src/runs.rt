@@ -8,7 +8,7 @@ use std::num::wrapping_add_usize;
 // The number of no check.
 const NO_CALL: u8 = 98;
 
-#[derive(Drop)]
+#[derive(Clone, Copy)]
 pub enum Recipe {
     Change,
     Entries,

@@ -1,4 +1,7 @@
 // The checks of a sheet, in order, and that of its entries.
+
+#![tactic(auto)]
+
 ghost use Rattle.std.specs.Prelude.{◌≡◌, ℕ, ◌≤◌, ◌<◌, length, get_or};
 ghost use Rattle.chain.specs.Decisions.{Tells};
 ghost use Rattle.shapes.specs.Layout.{end_at, EntriesRight};
@@ -8,7 +11,7 @@ use encoding::wide;
 use shapes::{Shape, end_at, head_right, individuals_at, links_at, shape_of, sheet_laid_out};
 
 // The number of the first check that says no, or the sheet's shape.
-#[derive(Drop)]
+#[derive(Clone, Copy)]
 pub enum Sheet {
     Refused(u8),
     Accepted(Shape),

@@ -1,4 +1,7 @@
 // The quantified terms of a book, collected once, for eliminating and for placing; and the grades that links are judged by, as a row.
+
+#![tactic(auto)]
+
 ghost use Rattle.std.specs.Prelude.{◌≡◌, ◌+◌, ◌*◌, ◌<◌, ◌≤◌, length, get_or, take};
 ghost use Rattle.types.specs.Candidates.{places};
 ghost use Rattle.sections.specs.Terms.{term_count, terms_of};

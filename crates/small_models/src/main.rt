@@ -1,6 +1,9 @@
 // A second decider. It tries the small interpretations of small books, and holds the decider to them; it works out the interpretation of the types
 // that the decider lists; and it has the book decided again with its sets written out and with its recurring names shared. It is written from
 // documents 01 and 02 alone.
+
+#![tactic(auto)]
+
 mod grades;
 mod listed;
 mod meets;
@@ -26,7 +29,7 @@ const BOOKS: u64 = 100;
 const FEW: u64 = 12;
 
 // The state of the generator, what was seen, how many books had each outcome, and how many were tried and differ.
-#[derive(Drop)]
+#[derive(Clone, Copy)]
 struct Sums {
     state: u64,
     seen: Seen,

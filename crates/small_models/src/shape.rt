@@ -6,7 +6,7 @@ use reports::text::byte;
 use std::num::wrapping_add_usize;
 
 // N and the counts of terms, rules, membership claims, link claims, pairs, names, roles and individuals.
-#[derive(Drop)]
+#[derive(Clone, Copy)]
 pub struct Shape {
     pub steps: u8,
     pub terms: usize,

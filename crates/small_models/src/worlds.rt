@@ -10,7 +10,7 @@ const MOST: usize = 65535;
 
 // How many interpretations were tried, how many met the pairs, how many of these the rules, and how many of these the claims with some seating of
 // the individuals; `right` says that the decider agreed with each.
-#[derive(Drop)]
+#[derive(Clone, Copy)]
 pub struct Seen {
     pub tried: u64,
     pub ranked: u64,

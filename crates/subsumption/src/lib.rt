@@ -1,4 +1,7 @@
 // The table of implied rules of listed types: each type of a marked candidate narrows the sets of terms that are not refuted.
+
+#![tactic(auto)]
+
 ghost use Rattle.std.specs.Prelude.{◌≡◌, ◌++◌, ℕ, ◌*◌, ◌<◌, ◌≤◌, length, drop};
 ghost use Rattle.types.specs.Candidates.{grade_in};
 ghost use Rattle.sections.specs.Terms.{term_count, terms_of, TermsRight};

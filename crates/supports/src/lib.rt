@@ -1,4 +1,7 @@
 // Support: a candidate for one individual that is compatible with one for another, under the constraints between the two.
+
+#![tactic(auto)]
+
 ghost use Rattle.std.specs.Prelude.{ℕ, ◌+◌, ◌*◌, ◌<◌, ◌≤◌, length};
 ghost use Rattle.levels.specs.Rows.{row_at};
 ghost use Rattle.network.specs.Constraints.{constraint_count, Met, AllMet, ConstraintRight, AllRight};

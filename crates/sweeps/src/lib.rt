@@ -1,4 +1,7 @@
 // Sweeps over the marked candidates until every one that is marked has its witnesses.
+
+#![tactic(auto)]
+
 ghost use Rattle.std.specs.Prelude.{◌≡◌, ℕ, ◌*◌, ◌≤◌, length, get_or};
 ghost use Rattle.witness_boxes.specs.Tables.{tables, Ready};
 ghost use Rattle.passes.specs.Sweeps.{classes, Into, Counted, Settled};

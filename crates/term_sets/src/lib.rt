@@ -1,5 +1,8 @@
 // Sets of terms as the bits of words. For each left term the right terms that no type has refuted yet are such a set, so a type refutes all pairs of
 // a left term in one step, and a pair that is refuted costs nothing more.
+
+#![tactic(auto)]
+
 ghost use Rattle.std.specs.Prelude.{◌≡◌, ◌++◌, ◌↔◌, ℕ, ◌*◌, ◌<◌, ◌≤◌, length, get_or, drop};
 ghost use Rattle.encoding.specs.Bits.{Bit};
 ghost use Rattle.term_sets.specs.Sets.{Gathered, Narrowed, set_row, set_table};

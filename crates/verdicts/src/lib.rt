@@ -1,4 +1,7 @@
 // Whether a sheet meets a book's rules, pairs and claims, and if not the first that is broken.
+
+#![tactic(auto)]
+
 ghost use Rattle.std.specs.Prelude.{◌≡◌};
 ghost use Rattle.working.specs.Working.{or_else};
 ghost use Rattle.verdicts.specs.Verdicts.{verdict_in, Covered};

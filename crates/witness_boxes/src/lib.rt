@@ -1,4 +1,7 @@
 // The boxes of grades in which the children of a witness lie: of a slot of a source, one for each level that is wanted.
+
+#![tactic(auto)]
+
 ghost use Rattle.std.specs.Prelude.{◌≡◌, ℕ, ◌+◌, ◌*◌, ◌-◌, ◌<◌, ◌≤◌, length, get_or, set};
 ghost use Rattle.boxes.specs.Boxes.{Asks, Narrowed};
 ghost use Rattle.slots.specs.Slots.{slot_count, slot_kind};

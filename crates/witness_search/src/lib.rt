@@ -1,4 +1,7 @@
 // The search for a marked target whose row lies in its box, by blocks of rows.
+
+#![tactic(auto)]
+
 ghost use Rattle.std.specs.Prelude.{◌≡◌, true, false, ℕ, ◌+◌, ◌*◌, ◌-◌, ◌<◌, ◌≤◌, length, get_or};
 ghost use Rattle.chain.specs.Decisions.{Tells};
 ghost use Rattle.boxes.specs.Boxes.{part};

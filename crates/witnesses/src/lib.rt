@@ -1,4 +1,7 @@
 // The search for witnesses by tables of grades: of a source, a row of the slots' own grades, among the marked targets, rows of their children's.
+
+#![tactic(auto)]
+
 ghost use Rattle.std.specs.Prelude.{true, false, ◌+◌, ◌*◌, ◌-◌, ◌<◌, ◌≤◌, length};
 ghost use Rattle.chain.specs.Decisions.{Tells};
 ghost use Rattle.slots.specs.Slots.{slot_count};

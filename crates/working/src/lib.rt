@@ -1,7 +1,9 @@
 // The verdicts that there are on a sheet.
 
+#![tactic(auto)]
+
 // What working out a sheet says of a book. A rule is named with its lowest element, a pair with its lowest first, then second element.
-#[derive(Drop)]
+#[derive(Clone, Copy)]
 pub enum Verdict {
     Meets,
     BreaksRule(usize, usize),

@@ -1,4 +1,7 @@
 // Decides a book, and writes the sheet of the model that its survivors and their placement are.
+
+#![tactic(auto)]
+
 ghost use Rattle.std.specs.Prelude.{◌≡◌, length};
 ghost use Rattle.chain.specs.Questions.{first_no};
 ghost use Rattle.book.specs.Opening.{Right};

@@ -1,4 +1,7 @@
 // Writing the sheet of a model, after deciding: the checks 17 to 19, and the sheet.
+
+#![tactic(auto)]
+
 ghost use Rattle.std.specs.Prelude.{◌≡◌, ◌++◌, ◌*◌, ◌<◌, ◌≤◌, length, take, drop};
 ghost use Rattle.std.proofs.Math.Option.{some};
 ghost use Rattle.semantics.specs.Books.{name_count, role_count, individuals as individualsOf};
@@ -16,7 +19,7 @@ use layout::Sections;
 use shapes::Shape;
 
 // The number of the first check that says no, or the sheet's length.
-#[derive(Drop)]
+#[derive(Clone, Copy)]
 pub enum Written {
     Refused(u8),
     Sheet(usize),

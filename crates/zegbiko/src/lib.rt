@@ -1,5 +1,8 @@
 // The entry points for callers in C (include/zegbiko.h): each answer is a struct of numbers, by value. A slice is two arguments there, a pointer
 // and a length.
+
+#![tactic(auto)]
+
 ghost use Rattle.std.specs.Prelude.{◌≡◌, length};
 ghost use Rattle.book.specs.Opening.{opened_of};
 ghost use Rattle.counter.specs.Counting.{counted_of};

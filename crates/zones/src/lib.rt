@@ -1,4 +1,7 @@
 // Zones of a table of rows: what all rows of a block have in common, so that a search can pass over the block.
+
+#![tactic(auto)]
+
 ghost use Rattle.std.specs.Prelude.{◌≡◌, true, List, ℕ, ◌+◌, ◌*◌, ◌/◌, ◌<◌, ◌≤◌, length, get_or};
 ghost use Rattle.boxes.specs.Boxes.{bound_count, bound_at, Inside};
 ghost use Rattle.zones.specs.Zones.{zone_in, row_in, Lies, Zoned, Wider};
