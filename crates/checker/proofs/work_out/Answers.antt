@@ -1,0 +1,21 @@
+-- `checker::work_out` meets its contract. The book is opened once; a refusal is passed on and leaves the grid.
+-- Assumes nothing.
+use mathlib.Core.Path.{sym, ◌∙◌}
+use lib.ListN.{length}
+use borrow.Author.Rules.{rules}
+use Rattle.chain.proofs.Answers.{numbered-and}
+use Rattle.book.proofs.Opening.{opened_accepted}
+use Rattle.checker.specs.Working.{worked_number}
+use Rattle.checker.proofs.Working.{worked_number-is, work_book, refused}
+use Rattle.checker.proofs.work_out.Goals as goal
+
+pub work_in-requires : goal.work_in-requires
+work_in-requires c = opened_accepted _ _ (sym c.«open».ensures.0 ∙ c.s-1.given.1)
+
+pub returns-in-Refused : goal.returns-in-Refused
+returns-in-Refused c =
+    let w = numbered-and worked_number (worked_number-is _ _ _) (refused _ _ _ _ _ (work_book _ c.args.sheet.now (length c.args.grid.now) _
+    (sym c.«open».ensures.0 ∙ c.n-1.given.1))) in record { value = w.0; result_value = w.1.0; grid_after = w.1.1 }
+
+pub returns-in-Accepted : goal.returns-in-Accepted
+returns-in-Accepted c = let w = numbered-and worked_number (worked_number-is _ _ _) c.work_in.ensures in record { value = w.0; result_value = w.1.0; grid_after = w.1.1 }

@@ -1,0 +1,34 @@
+-- `checker::work_shaped` meets its contract. The array of columns stands alone here, so that nothing computes it.
+-- Assumes nothing.
+use mathlib.Core.Path.{sym}
+use native.Mathlib.Omega.{arith}
+use lib.ListN.{length}
+use borrow.Author.Rules.{rules}
+use Rattle.chain.proofs.Lists.{zeros-long}
+use Rattle.book.proofs.Opening.{right-ordered}
+use Rattle.checker.proofs.Working.{work_16, work_none, worked_says, refused, grid_worked, size_is, size_few}
+use Rattle.checker.proofs.work_shaped.Goals as goal
+
+pub count_terms-requires : goal.count_terms-requires
+count_terms-requires c = (right-ordered _ _ c.requires.right).0
+
+pub overflow_mul-p : goal.overflow_mul-p
+overflow_mul-p c =
+    record { fits = omega (arith, size_few _ _ _ c.requires.right _ c.requires.sheet_fits _ c.count_terms.ensures) }
+
+pub returns-then-grid-p : goal.returns-then-grid-p
+returns-then-grid-p c =
+    let size = size_is _ _ _ c.requires.right _ c.requires.sheet_fits _ c.count_terms.ensures in
+    let w = refused _ _ _ _ 16 (work_16 _ _ _ c.requires.right _ c.requires.sheet_fits _ (λ l. omega arith)) in record { value = w.0; grid_after = w.1 }
+
+pub work_fitting-requires : goal.work_fitting-requires
+work_fitting-requires c =
+    let size = size_is _ _ _ c.requires.right _ c.requires.sheet_fits _ c.count_terms.ensures in
+    record { right = c.requires.right; sheet_fits = c.requires.sheet_fits; in_bounds = (zeros-long 4096, omega arith) }
+
+pub returns : goal.returns
+returns c =
+    let fitting = c.work_fitting.ensures in
+    let size = size_is _ _ _ c.requires.right _ c.requires.sheet_fits _ c.count_terms.ensures in
+    let h = work_none _ _ _ c.requires.right _ c.requires.sheet_fits (length c.args.grid.now) (omega arith) in
+    record { value = rw fitting.value (sym (worked_says _ _ _ h)); grid_after = rw fitting.grid_after (sym (grid_worked _ _ _ h)) }

@@ -1,0 +1,9 @@
+-- `decide::main` meets its contract: only a book that opens is decided.
+-- Assumes nothing.
+use mathlib.Core.Path.{sym, ◌∙◌}
+use borrow.Author.Rules.{rules}
+use Rattle.book.proofs.Opening.{opened_accepted}
+use Rattle.decide.proofs.main.Goals as goal
+
+pub print_decision-requires : goal.print_decision-requires
+print_decision-requires c = opened_accepted _ _ (sym c.«open».ensures.0 ∙ c.s-1.given.1)

@@ -1,0 +1,12 @@
+-- `decide::print_types` meets its contract. Before each block of lines the candidates below `first` are done.
+-- Assumes nothing.
+use mathlib.Core.Path.{◌≡◌}
+use Prim.Native.Nat.{◌≤◌, ◌-◌}
+use native.Mathlib.Omega.{arith}
+use lib.ListN.{length}
+use borrow.Author.Rules.{rules}
+use Rattle.decide.proofs.print_types.Goals as goal
+
+pub type_lines-end-requires : goal.type_lines-end-requires
+type_lines-end-requires c =
+    record { terms_right = c.requires.terms_right; terms_bound = (c.requires.terms_bound.0, c.requires.terms_bound.1); count_in_bounds = (omega arith, omega arith, omega (arith, c.requires.terms_bound.2)) }

@@ -1,0 +1,23 @@
+-- `decider::decide` meets its contract.
+-- Assumes nothing.
+use mathlib.Core.Path.{sym, ◌∙◌}
+use lib.ListN.{length}
+use borrow.Author.Rules.{rules}
+use Rattle.chain.proofs.Answers.{numbered-and}
+use Rattle.book.proofs.Opening.{opened_accepted}
+use Rattle.counter.proofs.Counting.{counted_declined, counted-refused}
+use Rattle.decider.specs.Deciding.{decision_number}
+use Rattle.decider.proofs.Deciding.{decide_before, refused, decision_number-is}
+use Rattle.decider.proofs.decide.Goals as goal
+
+pub decide_in-requires : goal.decide_in-requires
+decide_in-requires c = opened_accepted _ _ (sym c.«open».ensures.0 ∙ c.s-1.given.1)
+
+pub returns-in-Refused : goal.returns-in-Refused
+returns-in-Refused c =
+    let w = numbered-and decision_number (decision_number-is _ _) (refused _ _ c.args.marks.now c.args.placement.now _
+    (decide_before c.args.b.now (length c.args.marks.now) (length c.args.placement.now) _
+    (counted_declined _ _ _ (counted-refused _ _ (sym c.«open».ensures.0 ∙ c.n-1.given.1))))) in record { value = w.0; result_value = w.1.0; marks_after = w.1.1.0; placement_after = w.1.1.1 }
+
+pub returns-in-Accepted : goal.returns-in-Accepted
+returns-in-Accepted c = let w = numbered-and decision_number (decision_number-is _ _) c.decide_in.ensures in record { value = w.0; result_value = w.1.0; marks_after = w.1.1.0; placement_after = w.1.1.1 }
