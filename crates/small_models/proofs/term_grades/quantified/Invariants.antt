@@ -1,7 +1,7 @@
--- `small_models::grades::quantified` meets its contract. The counter of the loop stays within its bound.
+-- `small_models::term_grades::quantified` meets its contract. The counter of the loop stays within its bound.
 -- Assumes nothing.
 use Rattle.std.proofs.Common.{◌-◌, ◌≤◌, rules}
-use Rattle.small_models.proofs.grades.quantified.Given as goal
+use Rattle.small_models.proofs.term_grades.quantified.Given as goal
 
 abbrev pub invariant-loop-f : goal.invariant-loop-f
 invariant-loop-f l = l.f ≤ l.n

@@ -1,7 +1,7 @@
--- `small_models::grades::fill` meets its contract. The loop keeps the length of `grid`, and its counter within its bound.
+-- `small_models::term_grades::fill` meets its contract. The loop keeps the length of `grid`, and its counter within its bound.
 -- Assumes nothing.
 use Rattle.std.proofs.Common.{◌≡◌, ◌-◌, ◌≤◌, length, rules}
-use Rattle.small_models.proofs.grades.fill.Given as goal
+use Rattle.small_models.proofs.term_grades.fill.Given as goal
 
 abbrev pub invariant-loop-i : goal.invariant-loop-i
 invariant-loop-i l = (l.i ≤ i-end) × (length l.grid ≡ length l.initial.grid)

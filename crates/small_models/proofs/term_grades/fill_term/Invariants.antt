@@ -1,7 +1,7 @@
--- `small_models::grades::fill_term` meets its contract. The loop keeps the length of `grid`, and its counter within its bound.
+-- `small_models::term_grades::fill_term` meets its contract. The loop keeps the length of `grid`, and its counter within its bound.
 -- Assumes nothing.
 use Rattle.std.proofs.Common.{◌≡◌, ◌-◌, ◌≤◌, length, rules}
-use Rattle.small_models.proofs.grades.fill_term.Given as goal
+use Rattle.small_models.proofs.term_grades.fill_term.Given as goal
 
 abbrev pub invariant-loop-e : goal.invariant-loop-e
 invariant-loop-e l = (l.e ≤ l.n) × (length l.grid ≡ length l.initial.grid)
