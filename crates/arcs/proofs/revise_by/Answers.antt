@@ -9,7 +9,6 @@ use Rattle.supports.specs.Arcs.{SupportedBy}
 use Rattle.domains.proofs.Gaps.{gaps-noted}
 use Rattle.supports.proofs.Bounds.{constraints_few}
 use Rattle.supports.proofs.Arcs.{revised_not, revised_noted, revised_none}
-use Rattle.std.proofs.lemmas.Bool.{not-false, not-true}
 use Rattle.arcs.proofs.revise_by.Goals as goal
 
 pub between-forth-requires : goal.between-forth-requires
@@ -65,7 +64,7 @@ returns-then-not-revise c =
           c.revise.result a.table.now _
           c.between-forth.ensures
           c.between-back.ensures
-          (not-true c.revise.result (not-true _ c.if-not-revise.true)) c.revise.ensures.revised_by; gaps_2 = c.revise.ensures.gaps }
+          c.if-not-revise.true c.revise.ensures.revised_by; gaps_2 = c.revise.ensures.gaps }
 
 pub note_gaps-requires : goal.note_gaps-requires
 note_gaps-requires c =
@@ -88,5 +87,5 @@ returns c =
           c.revise.result a.table.now _ _
           c.between-forth.ensures
           c.between-back.ensures
-          (not-false c.revise.result (not-false _ c.if-not-revise.false))
+          c.if-not-revise.false
           c.revise.ensures.revised_by c.note_gaps.ensures.same; gaps_2 = gaps-noted a.j a.individuals a.count _ _ w.candidates_few c.revise.ensures.gaps c.note_gaps.ensures }

@@ -11,7 +11,7 @@ use Rattle.grids.proofs.grade.Goals as goal
 
 pub name_grade-requires : goal.name_grade-requires
 name_grade-requires c =
-    name_below c.requires.evaluable.1 c.args.i c.requires.i_bound.0 c.args.e c.requires.i_bound.1 c.in-0.keys1
+    name_below c.requires.evaluable.1 c.args.i c.requires.i_bound.0 c.args.e c.requires.i_bound.1 c.in-0.is
 
 pub taken_at-requires : goal.taken_at-requires
 taken_at-requires c =
@@ -34,7 +34,7 @@ returns-in-0 c =
     let i = c.args.i in
     c.name_grade.ensures
     ∙ grade-kind (kind_at t i) (a_at t i) (b_at t i) c.args.logic c.args.n c.args.a c.args.names.now c.args.links.now
-    c.args.values.now i c.args.e 0 c.in-0.keys1
+    c.args.values.now i c.args.e 0 c.in-0.is
 
 pub returns-in-4 : goal.returns-in-4
 returns-in-4 c =
