@@ -21,7 +21,7 @@ counts_in-counts-requires c = c.requires.equipped.right
 pub seat-requires : goal.seat-requires
 seat-requires c =
     let counts-in = c.counts_in-counts in
-    record { equipped = c.requires.equipped; count_bound = c.requires.count_bound; individuals_value = (ap (λ (k : Counts). k.individuals) counts-in.ensures.0, omega (arith, counts-in.ensures.1)) }
+    record { equipped = c.requires.equipped; count_bound = c.requires.count_bound; individuals_value = (ap (λ (k : Counts). k.individuals) counts-in.ensures.value, omega (arith, counts-in.ensures.names_bound)) }
 
 pub returns-then-not-seat : goal.returns-then-not-seat
 returns-then-not-seat c =
@@ -39,7 +39,7 @@ pub write_placement-requires : goal.write_placement-requires
 write_placement-requires c =
     let counts-in = c.counts_in-counts in
     let seat = c.seat in
-    omega (arith, length-take-le counts-in.result.individuals seat.new.seats (omega (arith, counts-in.ensures.1, seat.auto)), counts-in.ensures.1, c.requires.nonzero.1)
+    omega (arith, length-take-le counts-in.result.individuals seat.new.seats (omega (arith, counts-in.ensures.names_bound, seat.auto)), counts-in.ensures.names_bound, c.requires.nonzero.1)
 
 pub returns : goal.returns
 returns c =

@@ -16,7 +16,7 @@ use Rattle.entries.proofs.enter.Goals as goal
 
 pub fill_row-requires : goal.fill_row-requires
 fill_row-requires c =
-    record { terms_right = c.requires.task.0.terms_right; terms_bound = (c.requires.task.0.few_terms, omega (arith, c.requires.task.0.few_terms), c.requires.task.1, omega (arith, c.requires.task.0.few, s.requires.1)) }
+    record { terms_right = c.requires.task.0.terms_right; terms_bound = (c.requires.task.0.few_terms, omega (arith, c.requires.task.0.few_terms), c.requires.task.1, omega (arith, c.requires.task.0.few, c.requires.roomy)) }
 
 pub mark_by_rules-mark-requires : goal.mark_by_rules-mark-requires
 mark_by_rules-mark-requires c =

@@ -85,11 +85,10 @@ loop-rest-preserved c =
     let l = c.loop-rest in
     let W = c.sweep-next in
     let K = classes (tables a.logic a.sources a.targets a.slots.now a.own.now a.child.now) a.source.now a.target.now in
-    let r = W.new.memory in
-    let memory = r.0 in
-    let alive = r.1.0 in
-    let present = r.1.1.0 in
-    let marks = r.1.1.1.0 in (
+    let memory = W.new.memory in
+    let alive = W.new.alive in
+    let present = W.new.present in
+    let marks = W.new.marks in (
       omega (arith, W.auto, l.invariant.0),
       omega (arith, W.auto, l.invariant.1),
       omega (arith, W.auto, l.invariant.2),
