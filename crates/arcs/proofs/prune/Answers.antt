@@ -20,11 +20,15 @@ slice_bounds-pass-end c = sym c.loop-logic.invariant.1
 pub pass-requires : goal.pass-requires
 pass-requires c =
     let a = c.args in
-    let l = c.loop-logic in record { problem = c.requires.problem; in_bounds = (omega (arith, l.invariant.0, c.requires.in_bounds), omega (arith, l.invariant.1)); gaps = (
-          l.invariant.2,
-          graded-fewer a.logic a.columns a.count
-              a.individuals a.rows.now a.table.now l.table l.invariant.3.fewer c.requires.gaps.1,
-        ) }
+    let l = c.loop-logic in record {
+      problem = c.requires.problem;
+      in_bounds = (omega (arith, l.invariant.0, c.requires.in_bounds), omega (arith, l.invariant.1));
+      gaps = (
+        l.invariant.2,
+        graded-fewer a.logic a.columns a.count
+            a.individuals a.rows.now a.table.now l.table l.invariant.3.fewer c.requires.gaps.1,
+      );
+    }
 
 pub shape_of-table-then-not-pass : goal.shape_of-table-then-not-pass
 shape_of-table-then-not-pass c = c.pass.auto.table ∙ c.loop-logic.invariant.0

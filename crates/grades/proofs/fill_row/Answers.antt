@@ -37,11 +37,14 @@ slice_bounds-term_grade-end-in-loop-i c = sym (ap length (front (grade_in (gradi
 
 pub term_grade-g-requires : goal.term_grade-g-requires
 term_grade-g-requires c =
-    let n = ap length (front (grade_in (grading c.args.logic (terms_of c.args.terms.now)) c.args.c) c.loop-i.row c.args.row.now c.loop-i.i (omega (arith, c.loop-i.invariant.0, c.requires.terms_bound.1)) c.loop-i.invariant.1) ∙ length-table (grade_in (grading c.args.logic (terms_of c.args.terms.now)) c.args.c) c.loop-i.i in record { terms_right = c.requires.terms_right; earlier_len_bound = (
+    let n = ap length (front (grade_in (grading c.args.logic (terms_of c.args.terms.now)) c.args.c) c.loop-i.row c.args.row.now c.loop-i.i (omega (arith, c.loop-i.invariant.0, c.requires.terms_bound.1)) c.loop-i.invariant.1) ∙ length-table (grade_in (grading c.args.logic (terms_of c.args.terms.now)) c.args.c) c.loop-i.i in record {
+      terms_right = c.requires.terms_right;
+      earlier_len_bound = (
         omega (arith, n),
         λ j. rw (front (grade_in (grading c.args.logic (terms_of c.args.terms.now)) c.args.c) c.loop-i.row c.args.row.now c.loop-i.i (omega (arith, c.loop-i.invariant.0, c.requires.terms_bound.1)) c.loop-i.invariant.1) (earlier_le c.args.logic c.args.terms.now c.requires.terms_right c.args.c c.loop-i.i c.loop-i.invariant.0 j),
         c.requires.terms_bound.2 c.loop-i.i (omega arith) ∙ ap (home (terms_of c.args.terms.now)) (sym n),
-      ) }
+      );
+    }
 
 pub bounds-row-i : goal.bounds-row-i
 bounds-row-i c = omega (arith, long (grade_in (grading c.args.logic (terms_of c.args.terms.now)) c.args.c) c.loop-i.row c.args.row.now c.loop-i.i (omega (arith, c.loop-i.invariant.0, c.requires.terms_bound.1)) c.loop-i.invariant.1)

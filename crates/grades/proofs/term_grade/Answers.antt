@@ -93,5 +93,8 @@ returns-in-5 c =
 
 pub returns-in_default : goal.returns-in_default
 returns-in_default c =
-    let n = c.in_default.in_default-own.rest.0.0 in record { grade_value = c.name_grade.ensures.grade_value ∙ grade-place _ _ _ _ _ c.requires.terms_right c.requires.earlier_len_bound.0 n.0.0.0.0.1 n.0.0.0.1 n.0.0.1 n.0.1 n.1; rest_value = c.name_grade.ensures.rest_value
-          ∙ rest-place _ _ _ _ c.requires.earlier_len_bound.0 _ c.requires.terms_right c.requires.earlier_len_bound.2 n.0.0.0.0.1 n.0.0.0.1 n.0.0.1 n.0.1 n.1 }
+    let n = c.in_default.in_default-own.rest.0.0 in record {
+      grade_value = c.name_grade.ensures.grade_value ∙ grade-place _ _ _ _ _ c.requires.terms_right c.requires.earlier_len_bound.0 n.0.0.0.0.1 n.0.0.0.1 n.0.0.1 n.0.1 n.1;
+      rest_value = c.name_grade.ensures.rest_value
+          ∙ rest-place _ _ _ _ c.requires.earlier_len_bound.0 _ c.requires.terms_right c.requires.earlier_len_bound.2 n.0.0.0.0.1 n.0.0.0.1 n.0.0.1 n.0.1 n.1;
+    }

@@ -22,11 +22,15 @@ pub plain_grade-requires : goal.plain_grade-requires
 plain_grade-requires c =
     let w = c.requires.evaluable.1 in
     let i = c.requires.i_bound.0 in
-    let e = c.requires.i_bound.1 in record { i_bound = (omega (arith, w.few_terms), omega (arith, w.few_elements), w.right c.args.i i); by_index = λ j h. cell_le w c.args.i c.args.values.now (omega arith) c.requires.worked_to j h c.args.e e; fact = (
-          c.in_default-1.rest.1,
-          λ k. ⊎_elim (λ t. omega (arith, t.taken)) (λ u. omega (arith, u.1.left)) c.in_default.branch,
-          λ k. ⊎_elim (λ t. omega (arith, t.taken)) (λ u. omega (arith, u.1.left)) c.in_default.branch,
-        ) }
+    let e = c.requires.i_bound.1 in record {
+      i_bound = (omega (arith, w.few_terms), omega (arith, w.few_elements), w.right c.args.i i);
+      by_index = λ j h. cell_le w c.args.i c.args.values.now (omega arith) c.requires.worked_to j h c.args.e e;
+      fact = (
+        c.in_default-1.rest.1,
+        λ k. ⊎_elim (λ t. omega (arith, t.taken)) (λ u. omega (arith, u.1.left)) c.in_default.branch,
+        λ k. ⊎_elim (λ t. omega (arith, t.taken)) (λ u. omega (arith, u.1.left)) c.in_default.branch,
+      );
+    }
 
 pub returns-in-0 : goal.returns-in-0
 returns-in-0 c =

@@ -17,13 +17,12 @@ use Rattle.models.proofs.Rows.{length-square}
 use Rattle.models.proofs.write_links.Goals as goal
 
 pub loop-r-init : goal.loop-r-init
-loop-r-init c =
-    (
-      omega arith,
-      omega arith,
-      fill_none (square_by c.args.logic (terms_of c.args.terms.now) c.args.rows.now c.args.n) (c.args.n * c.args.n)
-          (length-square c.args.logic (terms_of c.args.terms.now) c.args.rows.now c.args.n) c.args.body.now,
-    )
+loop-r-init c = (
+  omega arith,
+  omega arith,
+  fill_none (square_by c.args.logic (terms_of c.args.terms.now) c.args.rows.now c.args.n) (c.args.n * c.args.n)
+      (length-square c.args.logic (terms_of c.args.terms.now) c.args.rows.now c.args.n) c.args.body.now,
+)
 
 pub overflow_mul-start : goal.overflow_mul-start
 overflow_mul-start c = omega (arith, mul-le-mul c.requires.terms_bound.2 c.requires.terms_bound.2)

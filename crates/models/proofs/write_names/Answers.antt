@@ -17,13 +17,12 @@ use Rattle.models.proofs.Rows.{named_row, length-name_row}
 use Rattle.models.proofs.write_names.Goals as goal
 
 pub loop-e-init : goal.loop-e-init
-loop-e-init c =
-    (
-      omega arith,
-      omega arith,
-      fill_none (named_row (terms_of c.args.terms.now) c.args.rows.now c.args.names) c.args.names
-          (length-name_row (terms_of c.args.terms.now) c.args.rows.now c.args.names) c.args.body.now,
-    )
+loop-e-init c = (
+  omega arith,
+  omega arith,
+  fill_none (named_row (terms_of c.args.terms.now) c.args.rows.now c.args.names) c.args.names
+      (length-name_row (terms_of c.args.terms.now) c.args.rows.now c.args.names) c.args.body.now,
+)
 
 pub overflow_mul-start : goal.overflow_mul-start
 overflow_mul-start c = omega (arith, (let h : c.loop-e.e * c.args.names + c.args.names ≤ length c.loop-e.body = omega (arith, block_fits c.args.names c.loop-e.e c.args.n c.loop-e-test.true, c.loop-e.invariant.1, c.requires.terms_bound.3) in h))

@@ -16,13 +16,12 @@ use Rattle.models.proofs.Rows.{link_row, length-link_row}
 use Rattle.models.proofs.write_square.Goals as goal
 
 pub loop-e-init : goal.loop-e-init
-loop-e-init c =
-    (
-      omega arith,
-      omega arith,
-      fill_none (link_row c.args.logic (terms_of c.args.terms.now) c.args.rows.now c.args.n c.args.role) c.args.n
-          (length-link_row c.args.logic (terms_of c.args.terms.now) c.args.rows.now c.args.n c.args.role) c.args.body.now,
-    )
+loop-e-init c = (
+  omega arith,
+  omega arith,
+  fill_none (link_row c.args.logic (terms_of c.args.terms.now) c.args.rows.now c.args.n c.args.role) c.args.n
+      (length-link_row c.args.logic (terms_of c.args.terms.now) c.args.rows.now c.args.n c.args.role) c.args.body.now,
+)
 
 pub overflow_mul-start : goal.overflow_mul-start
 overflow_mul-start c = omega (arith, (let h : c.loop-e.e * c.args.n + c.args.n ≤ length c.loop-e.body = omega (arith, block_fits c.args.n c.loop-e.e c.args.n c.loop-e-test.true, c.loop-e.invariant.1, c.requires.terms_bound.3) in h))

@@ -27,8 +27,9 @@ loop-i-preserved c =
     let l = c.loop-i in
     let told = c.opens.ensures in
     elim c.if-opens.branch [
-      then-opens w ↦ (omega arith, w.found-is ∙ ap (λ (n : ℕ). n + 1) l.invariant.1 ∙ open_more (terms_of s) l.i (told.0 w.if-opens.true), omega arith)
-    | else-opens w ↦ (omega arith, w.found-is ∙ l.invariant.1 ∙ open_same (terms_of s) l.i (told.1 w.if-opens.false), omega arith) ]
+      | then-opens w ↦ (omega arith, w.found-is ∙ ap (λ (n : ℕ). n + 1) l.invariant.1 ∙ open_more (terms_of s) l.i (told.0 w.if-opens.true), omega arith)
+      | else-opens w ↦ (omega arith, w.found-is ∙ l.invariant.1 ∙ open_same (terms_of s) l.i (told.1 w.if-opens.false), omega arith)
+    ]
 
 pub returns : goal.returns
 returns c =

@@ -22,7 +22,7 @@ put_type-requires c =
     let terms = c.args.terms.now in
     record {
       by_index = rw (row_front c.args.logic terms c.args.c _ _ c.fill_row.ensures)
-      (row_digits c.args.logic terms c.args.c c.requires.terms_right.0 (omega arith), omega (arith, row-length c.args.logic terms c.args.c));
+          (row_digits c.args.logic terms c.args.c c.requires.terms_right.0 (omega arith), omega (arith, row-length c.args.logic terms c.args.c));
       at_in_bounds = omega arith;
     }
 

@@ -22,15 +22,14 @@ returns-then-not-governs c =
     (omega (arith, c.if-kind-lt4.false)) (omega (arith, c.if-kind-gt5.false)) (told_no _ c.governs.ensures c.if-not-governs.true))
 
 pub child_grade-child-requires : goal.child_grade-child-requires
-child_grade-child-requires c =
-    (
-      omega arith,
-      omega (
-        arith,
-        child-below c.args.logic c.args.terms.now c.args.role (entry c.args.first.now) (entry c.args.second.now) c.args.level c.args.i
-            c.requires.i_bound (omega (arith, c.if-kind-lt4.false)) (omega (arith, c.if-kind-gt5.false)) c.requires.terms_right,
-      ),
-    )
+child_grade-child-requires c = (
+  omega arith,
+  omega (
+    arith,
+    child-below c.args.logic c.args.terms.now c.args.role (entry c.args.first.now) (entry c.args.second.now) c.args.level c.args.i
+        c.requires.i_bound (omega (arith, c.if-kind-lt4.false)) (omega (arith, c.if-kind-gt5.false)) c.requires.terms_right,
+  ),
+)
 
 pub returns : goal.returns
 returns c =

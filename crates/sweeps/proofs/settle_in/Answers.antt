@@ -45,10 +45,15 @@ sweep-next-requires c =
     let p = c.requires.sources_in_bounds in
     let q = c.requires.into in
     let l = c.loop-rest in
-    let K = classes (tables a.logic a.sources a.targets a.slots.now a.own.now a.child.now) a.source.now a.target.now in record { ready = c.requires.ready; sources_in_bounds = (omega (arith, p.0, l.invariant.1), p.1, p.2, l.invariant.2, l.invariant.3); into = (
-            (omega (arith, q.0.0, l.invariant.0), λ i h. q.0.1 i (omega (arith, l.invariant.0))),
-            (omega (arith, q.1.0, l.invariant.0), λ i h. q.1.1 i (omega (arith, l.invariant.0))),
-          ); state = subst (λ (z : ℕ). State K z l.marks l.memory l.alive l.present l.rest) (sym l.invariant.0) l.invariant.4 }
+    let K = classes (tables a.logic a.sources a.targets a.slots.now a.own.now a.child.now) a.source.now a.target.now in record {
+      ready = c.requires.ready;
+      sources_in_bounds = (omega (arith, p.0, l.invariant.1), p.1, p.2, l.invariant.2, l.invariant.3);
+      into = (
+        (omega (arith, q.0.0, l.invariant.0), λ i h. q.0.1 i (omega (arith, l.invariant.0))),
+        (omega (arith, q.1.0, l.invariant.0), λ i h. q.1.1 i (omega (arith, l.invariant.0))),
+      );
+      state = subst (λ (z : ℕ). State K z l.marks l.memory l.alive l.present l.rest) (sym l.invariant.0) l.invariant.4;
+    }
 
 pub shape_of-memory-then-next-rest : goal.shape_of-memory-then-next-rest
 shape_of-memory-then-next-rest c =

@@ -30,17 +30,21 @@ write_decided-requires c =
     let q = decision_decided _ _ _ _ (sym decide-in.ensures.value ∙ c.in-Decided.is) in
     let e = counted-candidates _ _ c.args.k c.requires.b_value in
     let u = settled (book_of b) (decide_questions b m p) c.args.marks.now c.args.placement.now q.0 in
-    let suffices = decidable_suffices b m p q.0 in record { right = c.requires.right; count_bound = (
-          counted_small b c.args.k c.requires.b_value,
-          omega (arith, decide-in.auto, e.1, suffices.marks_suffice),
-          ap (λ (l : List ℕ). marked l c.args.k) (decide-in.ensures.marks_after ∙ sym u.1.0) ∙ marked_in_lem (book_of b) c.args.k e.1 c.args.marks.now,
-        ); in_bounds = (
-          omega (arith, decide-in.auto, suffices.placement_suffices),
-          λ h. placement_there b c.args.marks.now c.args.placement.now q.0 h
-              ∙ ap {B = Option (List ℕ)} (λ (l : List ℕ). some (placement_in l (individuals (book_of b)))) (sym decide-in.ensures.placement_after),
-          q.1,
-          q.2,
-        ) }
+    let suffices = decidable_suffices b m p q.0 in record {
+      right = c.requires.right;
+      count_bound = (
+        counted_small b c.args.k c.requires.b_value,
+        omega (arith, decide-in.auto, e.1, suffices.marks_suffice),
+        ap (λ (l : List ℕ). marked l c.args.k) (decide-in.ensures.marks_after ∙ sym u.1.0) ∙ marked_in_lem (book_of b) c.args.k e.1 c.args.marks.now,
+      );
+      in_bounds = (
+        omega (arith, decide-in.auto, suffices.placement_suffices),
+        λ h. placement_there b c.args.marks.now c.args.placement.now q.0 h
+            ∙ ap {B = Option (List ℕ)} (λ (l : List ℕ). some (placement_in l (individuals (book_of b)))) (sym decide-in.ensures.placement_after),
+        q.1,
+        q.2,
+      );
+    }
 
 pub returns-in-Refused : goal.returns-in-Refused
 returns-in-Refused c =

@@ -52,18 +52,22 @@ write_model-requires c =
     let few = right-individuals c.args.b.now c.args.s c.requires.right in
     let lt = (ap length (list-marked.ensures.1 ∙ c.requires.count_bound.2) ∙ sym c.requires.elements_value.0) in
     let li = length-take-le c.args.p.individuals seats (omega (arith, c.requires.elements_value.3, few, c.read_placement.auto)) in
-    let e = sym c.terms_in.ensures in record { terms_right = subst (λ (z : List ℕ). TermsRight z) e c.requires.right.terms_right; types_len_bound = (
-          omega (arith, lt, c.requires.elements_bound.0),
-          subst (λ (z : List ℕ). term_count z ≤ 64) e (omega (arith, right-terms c.args.b.now c.args.s c.requires.right, right-few c.args.b.now c.args.s c.requires.right)),
-          omega (arith, c.requires.elements_value.1, right-names c.args.b.now c.args.s c.requires.right),
-          omega (arith, c.requires.elements_value.2, right_roles c.args.b.now c.args.s c.requires.right),
-          omega (arith, li, c.requires.elements_value.3, few),
-        ); seats_in_bounds = omega (
-          arith,
-          end_same c.args.s.steps c.logic_in.result [] c.args.p (take list-marked.result list-marked.new.types)
-              (take c.args.p.individuals seats) lt li,
-          c.requires.elements_bound.3,
-        ) }
+    let e = sym c.terms_in.ensures in record {
+      terms_right = subst (λ (z : List ℕ). TermsRight z) e c.requires.right.terms_right;
+      types_len_bound = (
+        omega (arith, lt, c.requires.elements_bound.0),
+        subst (λ (z : List ℕ). term_count z ≤ 64) e (omega (arith, right-terms c.args.b.now c.args.s c.requires.right, right-few c.args.b.now c.args.s c.requires.right)),
+        omega (arith, c.requires.elements_value.1, right-names c.args.b.now c.args.s c.requires.right),
+        omega (arith, c.requires.elements_value.2, right_roles c.args.b.now c.args.s c.requires.right),
+        omega (arith, li, c.requires.elements_value.3, few),
+      );
+      seats_in_bounds = omega (
+        arith,
+        end_same c.args.s.steps c.logic_in.result [] c.args.p (take list-marked.result list-marked.new.types)
+            (take c.args.p.individuals seats) lt li,
+        c.requires.elements_bound.3,
+      );
+    }
 
 pub returns : goal.returns
 returns c =
