@@ -4,7 +4,7 @@ use Rattle.std.proofs.Common.{◌≡◌, ◌+◌, ◌-◌, ◌≤◌, length, ru
 use Rattle.decider_tests.proofs.run.Given as goal
 
 abbrev pub invariant-loop-at : goal.invariant-loop-at
-invariant-loop-at l = (l.at ≤ length l.input + 1) × (length l.book ≡ length l.initial.book)
+invariant-loop-at g l = (l.at ≤ length l.input + 1) × (length l.book ≡ length l.initial.book)
 
 abbrev pub decreases-loop-at : goal.decreases-loop-at
-decreases-loop-at l = length l.input + 1 - l.at
+decreases-loop-at g l = length l.input + 1 - l.at
