@@ -2,7 +2,7 @@
 """conv.py ROOT NAMES CRATE.. : turns proofs/F/Proof.antt (tie form) into Invariants.antt and Answers.antt"""
 import json, os, re, sys, glob
 ROOT, NAMES = sys.argv[1], sys.argv[2]
-norm = lambda n: re.sub(r'^overflow-', '', n.replace('_', '-'))
+norm = lambda n: re.sub(r'^overflow-', '', n.replace('terms_in_range','terms_in').replace('IsPlace','place').lower().replace('_', '-'))
 
 # clause names of each function
 CL = {}
@@ -152,6 +152,7 @@ def convert(crate, folder, key, data, report):
         else:
             groups.append((None,'',[items[k]])); k+=1
     invs={}
+    extra=set()
     def resolve(goal_place, t, aliases, flags):
         def sub(m):
             root,rest=m[1],m[2].split('.')[1:]
@@ -177,6 +178,9 @@ def convert(crate, folder, key, data, report):
                 flags.append(f'no step {m[0]}'); return '.'.join(['c',fld]+rest)
             step=found[2][1]; callee=found[3]
             out=['c',step]
+            if re.match(r'if-not-',step) and rest and rest[0] in('true','false'):
+                extra.add('not-'+rest[0])
+                return f'(not-{rest[0]} _ c.{step}.{rest[0]})'
             if rest and rest[0] in ('ensures',) and callee:
                 ints=[]; r=rest[1:]
                 while r and r[0].isdigit(): ints.append(int(r.pop(0)))
@@ -281,7 +285,33 @@ def convert(crate, folder, key, data, report):
                 else: rep[p]='l.'+p
             def isub(mm):
                 return rep.get(mm[0],mm[0])
-            nb=re.sub(r"(?<![\w.'₀-])[A-Za-z_][\w']*₀?(?![\w'₀-])", isub, body)
+            skip=[]
+            for bm in re.finditer(r"λ ([^.()]*)\.|λ ((?:\([^()]*\) ?)+)\.|\(([\w' ]+) : ", body):
+                bound=re.findall(r"[A-Za-z_][\w']*", bm[1] or '') if bm[1] else (bm[3].split() if bm[3] else re.findall(r"\(([\w']+)", bm[2]))
+                depth=0; e=len(body)
+                start=bm.start() if not bm[0].startswith('(') else bm.start()+1
+                for j in range(start,len(body)):
+                    if body[j] in '([{': depth+=1
+                    if body[j] in ')]}':
+                        depth-=1
+                        if depth<0:
+                            e=j
+                            break
+                if bm[0].startswith('('):  # (x : T) → ..: up to the end of what encloses the arrow
+                    close=e; depth=0; e=len(body)
+                    for j in range(close+1,len(body)):
+                        if body[j] in '([{': depth+=1
+                        if body[j] in ')]}':
+                            depth-=1
+                            if depth<0:
+                                e=j
+                                break
+                for b in bound:
+                    if b in rep: skip.append((b,bm.start(),e)); flags.append(f'binder {b} kept')
+            def isub2(mm):
+                if any(b==mm[0] and s<=mm.start()<e for b,s,e in skip): return mm[0]
+                return isub(mm)
+            nb=re.sub(r"(?<![\w.'₀-])[A-Za-z_][\w']*₀?(?![\w'₀-])", isub2, body)
             nn=f'{kind}-{l[0][1]}'
             inv.append((nn, nb, [x for x in g if x.startswith('unfolding')]))
             continue
@@ -329,6 +359,7 @@ def convert(crate, folder, key, data, report):
         for nn,b,u in inv:
             invtext+=f'\nabbrev pub {nn} : goal.{nn}\n'+''.join(x+'\n' for x in u)+f'{nn} l = {b}\n'
         open(f'{folder}/Invariants.antt','w').write(invtext)
+    if extra: uses.append('use Rattle.std.proofs.lemmas.Bool.{'+', '.join(sorted(extra))+'}')
     if ans:
         t='\n'.join(comment)+'\n'+'\n'.join(uses)+f'\nuse {base}.Goals as goal\n'
         if htext: t+='\n'+htext+'\n'

@@ -1,4 +1,3 @@
 // Books by their bytes: definitions and laws alone, no code.
 
 #![tactic(auto)]
-

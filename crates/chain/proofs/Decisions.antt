@@ -5,7 +5,7 @@ use mathlib.Core.Bool.{Bool, true, false, not}
 use Prim.Native.Nat.{ℕ, ◌≤◌, ◌<◌}
 use native.Mathlib.Omega.{arith}
 use lib.Dec.{leb, ltb, eqb}
-use borrow.Author.Tests.{leb-true, leb-false, ltb-true, ltb-false, eqb-true, eqb-false, not-true, not-false}
+use borrow.Author.Tests.{leb-true, leb-false, ltb-true, ltb-false, eqb-true, eqb-false}
 use Rattle.chain.specs.Decisions.{says, Tells}
 
 -- true is not false
@@ -71,8 +71,8 @@ pub tells_then : {A B : Type 0} (r : Bool) → A → Tells r B → Tells r (A ×
 tells_then r a t = (λ e. (a, t.0 e), λ e p. t.1 e p.1)
 
 -- what a call told, where its result was tested: `if f(..)` and `if !f(..)`
-pub told_yes : {A : Type 0} (r : Bool) → Tells r A → not r ≡ false → A
-told_yes r t e = t.0 (not-false r e)
+pub told_yes : {A : Type 0} (r : Bool) → Tells r A → r ≡ true → A
+told_yes r t e = t.0 e
 
-pub told_no : {A : Type 0} (r : Bool) → Tells r A → not r ≡ true → ¬ A
-told_no r t e = t.1 (not-true r e)
+pub told_no : {A : Type 0} (r : Bool) → Tells r A → r ≡ false → ¬ A
+told_no r t e = t.1 e

@@ -1,4 +1,4 @@
-// Room for the input; the buffers that the calls get, each longer than any call may write, and of A5 before; and what they hold afterwards.
+// Room for the input and for a book; the buffers that the calls get, each longer than any call may write, and of A5 before; and what they hold afterwards.
 ghost use Rattle.std.specs.Prelude.{◌≡◌, length};
 
 use reports::text;
@@ -10,6 +10,12 @@ pub fn input() -> [u8; 131072]
     ensures { 131072 ≡ length result }
 {
     [0; 131072]
+}
+
+pub fn book() -> [u8; 4096]
+    ensures { 4096 ≡ length result }
+{
+    [0; 4096]
 }
 
 pub fn marks() -> [u8; 16448]

@@ -10,9 +10,9 @@ mod runs;
 
 ghost use Rattle.std.specs.Prelude.{◌≤◌, length};
 
-use libc::STDIN_FILENO;
 use reports::tally::Tally;
 use reports::{tally, text};
+use std::io;
 
 // The book's length, where the title of the group stands, and the cases of the group and of all.
 #[derive(Clone, Copy)]
@@ -35,16 +35,16 @@ fn begin() -> State {
 }
 
 // Prints the group that ends, if it has a case.
-fn close_group(mut s: State, input: &[u8]) -> State {
+fn close_group(rt: &impl Print, mut s: State, input: &[u8]) -> io::Result<State> {
     let from = s.from;
     let to = s.to;
     let group = s.group;
     let total = s.total;
     if group.cases != 0 && from <= to && to <= input.len() {
-        s.total = tally::close(total, &input[from..to], group);
+        s.total = tally::close(rt, total, &input[from..to], group)?;
     }
     s.group = tally::begin();
-    s
+    Ok(s)
 }
 
 // The title stands after the sign and a space.
@@ -80,32 +80,39 @@ fn line(mut s: State, book: &mut [u8], line: &[u8]) -> State {
 }
 
 // The line from `at` to `end`.
-fn step(mut s: State, book: &mut [u8], input: &[u8], at: usize, end: usize) -> State
+fn step(
+    rt: &impl Print,
+    mut s: State,
+    book: &mut [u8],
+    input: &[u8],
+    at: usize,
+    end: usize,
+) -> io::Result<State>
     requires { (at ≤ end) × (end ≤ length input.now) }
 {
     if text::byte(input, at) == b'=' && end - at >= 2 {
-        s = close_group(s, input);
-        return titled(s, at + 2, end);
+        s = close_group(rt, s, input)?;
+        return Ok(titled(s, at + 2, end));
     }
-    line(s, book, &input[at..end])
+    Ok(line(s, book, &input[at..end]))
 }
 
-fn run(book: &mut [u8], input: &[u8]) -> State {
+fn run(rt: &impl Print, book: &mut [u8], input: &[u8]) -> io::Result<State> {
     let mut s = begin();
     let mut at = 0;
     while at < input.len() {
         let end = text::line_end(input, at);
-        s = step(s, book, input, at, end);
+        s = step(rt, s, book, input, at, end)?;
         at = end + 1;
     }
-    close_group(s, input)
+    close_group(rt, s, input)
 }
 
-fn main() {
+fn main(rt: HostRuntime) -> io::Result<()> {
     let mut input = buffers::input();
-    let mut book = io::buffer();
-    let length = io::read_full(STDIN_FILENO, &mut input);
-    let s = run(&mut book, &input[..length]);
+    let mut book = buffers::book();
+    let length = reading::read_full(&mut rt.stdin(), &mut input)?;
+    let s = run(&rt, &mut book, &input[..length])?;
     let total = s.total;
-    tally::print(b"total", total);
+    tally::print(&rt, b"total", total)
 }

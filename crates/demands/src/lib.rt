@@ -1,4 +1,3 @@
 // What is claimed, as theorems, in specs/: document 01's "Types and links", its readings and its printout, and demands 2 and 3 on a book's bytes.
 
 #![tactic(auto)]
-

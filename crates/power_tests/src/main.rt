@@ -5,6 +5,7 @@
 use powers::Power;
 use reports::tally;
 use reports::tally::{Tally, close, say, say_count, say_number};
+use std::io;
 use std::num::wrapping_add_u64;
 
 // The most places that can be asked for: a loop that went through them all would not end.
@@ -80,19 +81,19 @@ fn row_of(places: usize) -> Row {
 }
 
 // Prints one number of places, with how many powers are exact, and adds its cases.
-fn with_row(total: Tally, places: usize) -> Tally {
+fn with_row(rt: &impl Print, total: Tally, places: usize) -> io::Result<Tally> {
     let row = row_of(places);
-    say_number(places as u64);
-    say_count(b" places:", row.exact);
-    say(b" exact,");
-    close(total, b"", row.cases)
+    say_number(rt, places as u64)?;
+    say_count(rt, b" places:", row.exact)?;
+    say(rt, b" exact,")?;
+    close(rt, total, b"", row.cases)
 }
 
-fn rows(mut total: Tally) -> Tally {
+fn rows(rt: &impl Print, mut total: Tally) -> io::Result<Tally> {
     for places in 0..65 {
-        total = with_row(total, places);
+        total = with_row(rt, total, places)?;
     }
-    total
+    Ok(total)
 }
 
 fn is_one(answer: Power) -> bool {
@@ -122,9 +123,9 @@ fn more_places() -> Tally {
     t
 }
 
-fn main() {
-    let mut total = rows(tally::begin());
-    total = close(total, b"no steps", no_steps());
-    total = close(total, b"more places", more_places());
-    tally::print(b"total", total);
+fn main(rt: HostRuntime) -> io::Result<()> {
+    let mut total = rows(&rt, tally::begin())?;
+    total = close(&rt, total, b"no steps", no_steps())?;
+    total = close(&rt, total, b"more places", more_places())?;
+    tally::print(&rt, b"total", total)
 }

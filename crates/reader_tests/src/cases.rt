@@ -6,29 +6,39 @@ use crate::reader::expect;
 use crate::recipes::{Recipe, run};
 use reports::tally::{Tally, begin};
 use reports::text;
+use std::io;
 
 // A book in hexadecimal.
-fn written(t: Tally, book: &[u8], number: u8, candidates: u64) -> Tally {
+fn written(
+    rt: &impl Print,
+    t: Tally,
+    book: &[u8],
+    number: u8,
+    candidates: u64,
+) -> io::Result<Tally> {
     let mut b = blank();
     let length = text::write(&mut b, book);
-    expect(t, &b, length, Answer { number, candidates })
+    expect(rt, t, &b, length, Answer { number, candidates })
 }
 
 // Readings on file: the printed book, the same with N 1, no terms or claims.
-fn plain_readings(mut t: Tally) -> Tally {
+fn plain_readings(rt: &impl Print, mut t: Tally) -> io::Result<Tally> {
     t = written(
+        rt,
         t,
         b"01 02 00 12 00 02 00 18 00 02 00 1C 00 01 00 20 00 00 00 00 00 01 00 00 00 01 01 00 00 00 00 01",
         0,
         3,
-    );
+    )?;
     t = written(
+        rt,
         t,
         b"01 01 00 12 00 02 00 18 00 02 00 1C 00 01 00 20 00 00 00 00 00 01 00 00 00 01 01 00 00 00 00 01",
         0,
         2,
-    );
+    )?;
     written(
+        rt,
         t,
         b"01 01 00 12 00 00 00 12 00 00 00 12 00 00 00 12 00 00",
         0,
@@ -37,8 +47,9 @@ fn plain_readings(mut t: Tally) -> Tally {
 }
 
 // The printed book in edition 2, without pairs, then with role 0 under 7 and 3 under itself: pairs do not change the candidates.
-fn ranked_readings(mut t: Tally) -> Tally {
+fn ranked_readings(rt: &impl Print, mut t: Tally) -> io::Result<Tally> {
     t = written(
+        rt,
         t,
         b"
         02 02  00 16 00 02  00 1C 00 02  00 20 00 01  00 24 00 00  00 24 00 00
@@ -46,8 +57,9 @@ fn ranked_readings(mut t: Tally) -> Tally {
         ",
         0,
         3,
-    );
+    )?;
     written(
+        rt,
         t,
         b"
         02 02  00 16 00 02  00 1C 00 02  00 20 00 01  00 24 00 00  00 24 00 02
@@ -58,24 +70,27 @@ fn ranked_readings(mut t: Tally) -> Tally {
     )
 }
 
-pub fn readings() -> Tally {
-    let mut t = ranked_readings(plain_readings(begin()));
+pub fn readings(rt: &impl Print) -> io::Result<Tally> {
+    let mut t = ranked_readings(rt, plain_readings(rt, begin())?)?;
     // A not greater than "some r0 A", claim A at least 1
     t = written(
+        rt,
         t,
         b"01 01 00 12 00 02 00 18 00 01 00 1A 00 01 00 1E 00 00 00 00 00 04 00 00 00 01 00 00 00 01",
         0,
         4,
-    );
+    )?;
     // "some r0 bottom" at least 1
     t = written(
+        rt,
         t,
         b"01 01 00 12 00 02 00 18 00 00 00 18 00 01 00 1C 00 00 07 00 00 04 00 00 00 01 00 01",
         0,
         2,
-    );
+    )?;
     // N 2, link of 0 to itself at least 2, "all r0 A" at least 2, A at most 1
     written(
+        rt,
         t,
         b"01 02 00 12 00 02 00 18 00 00 00 18 00 02 00 20 00 01 00 00 00 05 00 00 00 01 00 02 00 00 01 01 00 00 00 02",
         0,
@@ -84,8 +99,9 @@ pub fn readings() -> Tally {
 }
 
 // Check 1. Terms, rules, membership claims, link claims, length.
-pub fn lengths() -> Tally {
+pub fn lengths(rt: &impl Print) -> io::Result<Tally> {
     let t = run(
+        rt,
         begin(),
         Recipe::Sized,
         b"
@@ -94,14 +110,15 @@ pub fn lengths() -> Tally {
         1 1 1 1 17 -> 1;  1 1 1 1 31 -> 0 1
         64 64 64 64 849 -> 5;  64 64 64 64 850 -> 0 1;  64 64 64 64 851 -> 1
         ",
-    );
-    ranked_lengths(t)
+    )?;
+    ranked_lengths(rt, t)
 }
 
 // Edition 2: the same with pairs before the length. Then byte, its value, length: byte 0 says which lengths are right, 22 to 982 where it is 2 and
 // 18 to 850 where it is not. The head is that of edition 2 without records, so a length that is right is refused 2 or 5.
-fn ranked_lengths(mut t: Tally) -> Tally {
+fn ranked_lengths(rt: &impl Print, mut t: Tally) -> io::Result<Tally> {
     t = run(
+        rt,
         t,
         Recipe::RankedSized,
         b"
@@ -111,8 +128,9 @@ fn ranked_lengths(mut t: Tally) -> Tally {
         64 64 64 64 0 854 -> 0 1;  64 64 64 64 64 850 -> 5;  64 64 64 64 64 851 -> 5
         64 64 64 64 64 981 -> 5;  64 64 64 64 64 982 -> 0 1;  64 64 64 64 64 983 -> 1
         ",
-    );
+    )?;
     run(
+        rt,
         t,
         Recipe::RankedEmpty,
         b"
@@ -125,29 +143,33 @@ fn ranked_lengths(mut t: Tally) -> Tally {
 }
 
 // Check 2. Byte, its value, length. Edition 1 called 2 is too short or has bodies at the wrong place, and so has edition 2 called 1.
-pub fn editions() -> Tally {
+pub fn editions(rt: &impl Print) -> io::Result<Tally> {
     let mut t = run(
+        rt,
         begin(),
         Recipe::Empty,
         b"
         0 0 18 -> 2;  0 1 18 -> 0 1;  0 2 18 -> 1;  0 3 18 -> 2;  0 255 18 -> 2
         ",
-    );
+    )?;
     t = run(
+        rt,
         t,
         Recipe::Sample,
         b"
         0 0 37 -> 2;  0 1 37 -> 0 9;  0 2 37 -> 5;  0 3 37 -> 2
         ",
-    );
+    )?;
     t = run(
+        rt,
         t,
         Recipe::RankedEmpty,
         b"
         0 0 22 -> 2;  0 1 22 -> 5;  0 2 22 -> 0 1;  0 3 22 -> 2;  0 255 22 -> 2
         ",
-    );
+    )?;
     run(
+        rt,
         t,
         Recipe::RankedSample,
         b"
@@ -157,24 +179,27 @@ pub fn editions() -> Tally {
 }
 
 // Check 3. Byte, its value, length.
-pub fn steps() -> Tally {
+pub fn steps(rt: &impl Print) -> io::Result<Tally> {
     let mut t = run(
+        rt,
         begin(),
         Recipe::Empty,
         b"
         1 0 18 -> 3;  1 1 18 -> 0 1
         1 8 18 -> 0 1;  1 9 18 -> 3;  1 255 18 -> 3
         ",
-    );
+    )?;
     t = run(
+        rt,
         t,
         Recipe::Sample,
         b"
         1 0 37 -> 3;  1 1 37 -> 0 4
         1 8 37 -> 0 81;  1 9 37 -> 3
         ",
-    );
+    )?;
     run(
+        rt,
         t,
         Recipe::RankedSample,
         b"
@@ -185,8 +210,9 @@ pub fn steps() -> Tally {
 }
 
 // Check 4. Terms, rules, membership claims, link claims, length; then byte, its value, length: the low and the high byte of each count.
-pub fn counts() -> Tally {
+pub fn counts(rt: &impl Print) -> io::Result<Tally> {
     let mut t = run(
+        rt,
         begin(),
         Recipe::Sized,
         b"
@@ -195,8 +221,9 @@ pub fn counts() -> Tally {
         1 0 64 0 277 -> 0 1;  1 0 65 0 281 -> 4
         0 0 0 64 274 -> 0 1;  0 0 0 65 278 -> 4
         ",
-    );
+    )?;
     t = run(
+        rt,
         t,
         Recipe::Sample,
         b"
@@ -205,13 +232,14 @@ pub fn counts() -> Tally {
         13 65 37 -> 4;  13 255 37 -> 4;  12 1 37 -> 4
         17 65 37 -> 4;  17 255 37 -> 4;  16 1 37 -> 4
         ",
-    );
-    ranked_counts(t)
+    )?;
+    ranked_counts(rt, t)
 }
 
 // Edition 2: the same with pairs.
-fn ranked_counts(mut t: Tally) -> Tally {
+fn ranked_counts(rt: &impl Print, mut t: Tally) -> io::Result<Tally> {
     t = run(
+        rt,
         t,
         Recipe::RankedSized,
         b"
@@ -221,8 +249,9 @@ fn ranked_counts(mut t: Tally) -> Tally {
         0 0 0 64 0 278 -> 0 1;  0 0 0 65 0 282 -> 4
         0 0 0 0 1 24 -> 0 1;  0 0 0 0 64 150 -> 0 1;  0 0 0 0 65 152 -> 4
         ",
-    );
+    )?;
     run(
+        rt,
         t,
         Recipe::RankedSample,
         b"
@@ -233,8 +262,9 @@ fn ranked_counts(mut t: Tally) -> Tally {
 }
 
 // Check 5. Byte, its value, length: each offset, each count and the length one off; offsets of empty sections; bodies from byte 19 on.
-pub fn layout() -> Tally {
+pub fn layout(rt: &impl Print) -> io::Result<Tally> {
     let mut t = run(
+        rt,
         begin(),
         Recipe::Sample,
         b"
@@ -248,8 +278,9 @@ pub fn layout() -> Tally {
         17 0 37 -> 5;  17 2 37 -> 5
         0 1 36 -> 5;  0 1 38 -> 5
         ",
-    );
+    )?;
     t = run(
+        rt,
         t,
         Recipe::Empty,
         b"
@@ -257,9 +288,10 @@ pub fn layout() -> Tally {
         15 18 18 -> 0 1;  15 0 18 -> 5
         7 17 18 -> 5;  11 19 18 -> 5
         ",
-    );
-    t = ranked_layout(t);
+    )?;
+    t = ranked_layout(rt, t)?;
     written(
+        rt,
         t,
         b"
         01 02  00 13 00 03  00 1C 00 01  00 1E 00 01  00 22 00 01
@@ -271,8 +303,9 @@ pub fn layout() -> Tally {
 }
 
 // Edition 2: bodies from byte 22 on, the pairs where the link claims end, the length where the pairs end.
-fn ranked_layout(mut t: Tally) -> Tally {
+fn ranked_layout(rt: &impl Print, mut t: Tally) -> io::Result<Tally> {
     t = run(
+        rt,
         t,
         Recipe::RankedSample,
         b"
@@ -283,8 +316,9 @@ fn ranked_layout(mut t: Tally) -> Tally {
         21 0 45 -> 5;  21 1 45 -> 5;  21 3 45 -> 5
         0 2 41 -> 5;  0 2 43 -> 5;  0 2 44 -> 5;  0 2 46 -> 5
         ",
-    );
+    )?;
     run(
+        rt,
         t,
         Recipe::RankedEmpty,
         b"
@@ -295,8 +329,9 @@ fn ranked_layout(mut t: Tally) -> Tally {
 }
 
 // Check 6. Terms before it, kind, a, b.
-fn kinds() -> Tally {
+fn kinds(rt: &impl Print) -> io::Result<Tally> {
     run(
+        rt,
         begin(),
         Recipe::Term,
         b"
@@ -324,8 +359,9 @@ fn kinds() -> Tally {
 
 // A term after a name and "some r0" of it: name, kind, a, b. The same name is right and adds no place to these two, another name adds one; so does a
 // quantified term, also an equal one. What else check 6 asks it asks of a name that recurs too.
-fn after_names(t: Tally) -> Tally {
+fn after_names(rt: &impl Print, t: Tally) -> io::Result<Tally> {
     run(
+        rt,
         t,
         Recipe::AfterName,
         b"
@@ -338,16 +374,18 @@ fn after_names(t: Tally) -> Tally {
 
 // In the sample, of either edition, byte, its value, length: the last term's name is 0, 4, 15, 16, and its b 1; the first's is 5, which the last has; the
 // second term is name 0. One name is one place wherever it stands: 3 candidates of one name, 9 of two.
-pub fn terms() -> Tally {
+pub fn terms(rt: &impl Print) -> io::Result<Tally> {
     let t = run(
-        after_names(kinds()),
+        rt,
+        after_names(rt, kinds(rt)?)?,
         Recipe::Sample,
         b"
         25 4 37 -> 0 9;  25 0 37 -> 0 3;  19 5 37 -> 0 3;  21 0 37 -> 0 9
         25 15 37 -> 0 9;  25 16 37 -> 6;  26 1 37 -> 6
         ",
-    );
+    )?;
     run(
+        rt,
         t,
         Recipe::RankedSample,
         b"
@@ -358,8 +396,9 @@ pub fn terms() -> Tally {
 }
 
 // Check 7. Terms, left, right.
-pub fn rules() -> Tally {
+pub fn rules(rt: &impl Print) -> io::Result<Tally> {
     run(
+        rt,
         begin(),
         Recipe::Rule,
         b"
@@ -372,8 +411,9 @@ pub fn rules() -> Tally {
 }
 
 // Check 8. N, terms, individual, term, sense, grade.
-pub fn memberships() -> Tally {
+pub fn memberships(rt: &impl Print) -> io::Result<Tally> {
     run(
+        rt,
         begin(),
         Recipe::Membership,
         b"
@@ -390,8 +430,9 @@ pub fn memberships() -> Tally {
 
 // Check 8 of claims for sets, senses 2 and 3. N, terms, set, term, sense, grade: every set is right, also the empty one, whose term and grade are
 // checked all the same. In senses 0 and 1 the first byte is an individual.
-fn set_ranges(t: Tally) -> Tally {
+fn set_ranges(rt: &impl Print, t: Tally) -> io::Result<Tally> {
     run(
+        rt,
         t,
         Recipe::Membership,
         b"
@@ -410,8 +451,9 @@ fn set_ranges(t: Tally) -> Tally {
 
 // The same between its neighbours. Right term of a rule, set, term, sense, grade, role of a link claim. Then edition 2: set, term, sense, grade, role
 // of a link claim, upper role of a pair.
-fn set_order(mut t: Tally) -> Tally {
+fn set_order(rt: &impl Print, mut t: Tally) -> io::Result<Tally> {
     t = run(
+        rt,
         t,
         Recipe::Set,
         b"
@@ -419,8 +461,9 @@ fn set_order(mut t: Tally) -> Tally {
         2 255 1 2 2 7 -> 7;  2 0 1 2 3 7 -> 7;  2 255 1 4 2 7 -> 7;  2 0 2 3 2 8 -> 7
         1 255 1 2 2 8 -> 9;  1 0 1 3 2 8 -> 9;  1 255 1 2 3 8 -> 8;  1 0 1 2 3 8 -> 8;  1 0 2 3 2 8 -> 8;  1 128 1 4 2 8 -> 8
         ",
-    );
+    )?;
     run(
+        rt,
         t,
         Recipe::RankedSet,
         b"
@@ -434,33 +477,37 @@ fn set_order(mut t: Tally) -> Tally {
 
 // Senses of single claims made those of sets, in either edition: byte, its value, length. Then no terms, so that an empty set has no right term; and
 // 15 names, so that 10 comes after a right claim and not before a wrong one.
-pub fn sets() -> Tally {
-    let mut t = set_order(set_ranges(begin()));
+pub fn sets(rt: &impl Print) -> io::Result<Tally> {
+    let mut t = set_order(rt, set_ranges(rt, begin())?)?;
     t = run(
+        rt,
         t,
         Recipe::Sample,
         b"
         31 1 37 -> 0 9;  31 2 37 -> 0 9;  31 3 37 -> 0 9;  31 4 37 -> 8
         ",
-    );
+    )?;
     t = run(
+        rt,
         t,
         Recipe::RankedSample,
         b"
         35 1 45 -> 0 9;  35 2 45 -> 0 9;  35 3 45 -> 0 9;  35 4 45 -> 8
         ",
-    );
+    )?;
     t = written(
+        rt,
         t,
         b"01 02 00 12 00 00 00 12 00 00 00 12 00 01 00 16 00 00 00 00 02 00",
         8,
         0,
-    );
-    named_sets(t)
+    )?;
+    named_sets(rt, t)
 }
 
-fn named_sets(mut t: Tally) -> Tally {
+fn named_sets(rt: &impl Print, mut t: Tally) -> io::Result<Tally> {
     t = written(
+        rt,
         t,
         b"
         01 01  00 12 00 0F  00 3F 00 00  00 3F 00 01  00 43 00 00
@@ -469,8 +516,9 @@ fn named_sets(mut t: Tally) -> Tally {
         ",
         10,
         0,
-    );
+    )?;
     written(
+        rt,
         t,
         b"
         01 01  00 12 00 0F  00 3F 00 00  00 3F 00 01  00 43 00 00
@@ -483,8 +531,9 @@ fn named_sets(mut t: Tally) -> Tally {
 }
 
 // Check 9. N, role, from, to, grade.
-pub fn links() -> Tally {
+pub fn links(rt: &impl Print) -> io::Result<Tally> {
     run(
+        rt,
         begin(),
         Recipe::Link,
         b"
@@ -500,8 +549,9 @@ pub fn links() -> Tally {
 
 // Check 22. Lower, upper, lower, upper; then byte, its value, length. Roles 0 to 7 are right in each place, also one role twice (3 3), a pair
 // that recurs (2 5), a circle (0 7, 7 0; 0 1, 1 0).
-pub fn pairs() -> Tally {
+pub fn pairs(rt: &impl Print) -> io::Result<Tally> {
     let t = run(
+        rt,
         begin(),
         Recipe::Pairs,
         b"
@@ -512,8 +562,9 @@ pub fn pairs() -> Tally {
         0 0 0 7 -> 0 1;  0 0 0 8 -> 22;  0 0 0 255 -> 22
         8 8 8 8 -> 22
         ",
-    );
+    )?;
     run(
+        rt,
         t,
         Recipe::RankedSample,
         b"
@@ -527,7 +578,7 @@ pub fn pairs() -> Tally {
 
 // Check 10 where names recur, in either edition. N, names, terms "some" after them, how often the names come again, up to 64 terms in all; past that it
 // is check 4. Only the names and the terms "some" are places.
-fn repeated_candidates(mut t: Tally) -> Tally {
+fn repeated_candidates(rt: &impl Print, mut t: Tally) -> io::Result<Tally> {
     let table = b"
         1 14 0 0 -> 0 16384;  1 14 0 1 -> 0 16384;  1 14 0 3 -> 0 16384;  1 15 0 1 -> 10;  1 15 0 3 -> 10;  1 16 0 3 -> 10
         1 13 1 3 -> 0 16384;  1 14 1 3 -> 10;  1 13 2 1 -> 10;  1 1 13 50 -> 0 16384;  1 1 14 49 -> 10;  1 1 0 63 -> 0 2
@@ -535,13 +586,14 @@ fn repeated_candidates(mut t: Tally) -> Tally {
         2 8 0 7 -> 0 6561;  2 9 0 6 -> 10;  3 7 0 8 -> 0 16384;  3 8 0 7 -> 10
         1 16 0 4 -> 4;  8 1 0 64 -> 4
         ";
-    t = run(t, Recipe::Repeated, table);
-    run(t, Recipe::RankedRepeated, table)
+    t = run(rt, t, Recipe::Repeated, table)?;
+    run(rt, t, Recipe::RankedRepeated, table)
 }
 
 // Check 10. N, names, terms "some", terms "all".
-pub fn candidates() -> Tally {
+pub fn candidates(rt: &impl Print) -> io::Result<Tally> {
     let t = run(
+        rt,
         begin(),
         Recipe::Places,
         b"
@@ -557,22 +609,24 @@ pub fn candidates() -> Tally {
         8 1 2 1 -> 0 6561;  8 2 2 1 -> 10;  8 1 2 2 -> 10
         1 1 31 31 -> 10;  3 0 32 31 -> 10;  8 0 0 63 -> 10
         ",
-    );
-    repeated_candidates(t)
+    )?;
+    repeated_candidates(rt, t)
 }
 
 // Each fault alone, then with the next; 0 is none.
-pub fn order() -> Tally {
+pub fn order(rt: &impl Print) -> io::Result<Tally> {
     let t = run(
+        rt,
         begin(),
         Recipe::Faults,
         b"
         0 0 -> 0 16384;  1 0 -> 1;  2 0 -> 2;  3 0 -> 3;  4 0 -> 4;  5 0 -> 5;  6 0 -> 6;  7 0 -> 7;  8 0 -> 8;  9 0 -> 9;  10 0 -> 10
         1 2 -> 1;  2 3 -> 2;  3 4 -> 3;  4 5 -> 4;  5 6 -> 5;  6 7 -> 6;  7 8 -> 7;  8 9 -> 8;  9 10 -> 9
         ",
-    );
+    )?;
     // in edition 2, 22 comes between 9 and 10
     run(
+        rt,
         t,
         Recipe::RankedFaults,
         b"

@@ -8,6 +8,7 @@ use layout::Sections;
 use reports::numbers::wide;
 use reports::tally::Tally;
 use reports::text::byte;
+use std::io;
 
 // Stands for two calls that contradict each other, or for sections that are not those of the book.
 const APART: u8 = 99;
@@ -67,9 +68,15 @@ fn answer(b: &[u8]) -> Answer {
 }
 
 // A case. The book is the first bytes of `b`; one that does not fit differs from any.
-pub fn expect(t: Tally, b: &[u8], length: usize, expected: Answer) -> Tally {
+pub fn expect(
+    rt: &impl Print,
+    t: Tally,
+    b: &[u8],
+    length: usize,
+    expected: Answer,
+) -> io::Result<Tally> {
     if b.len() < length {
-        return judge(t, expected, refused(0));
+        return judge(rt, t, expected, refused(0));
     }
-    judge(t, expected, answer(&b[0..length]))
+    judge(rt, t, expected, answer(&b[0..length]))
 }

@@ -8,6 +8,7 @@ use crate::{books, faults};
 use reports::tally::Tally;
 use reports::text;
 use reports::text::{Row, cell, set, small};
+use std::io;
 use std::num::{wrapping_add_u8, wrapping_sub_usize};
 
 // The answer that is expected of a row with too few or too many numbers: none.
@@ -300,24 +301,24 @@ fn expected(r: Row, from: usize) -> Answer
 }
 
 // The case of one row; without numbers it is none.
-fn case(t: Tally, recipe: Recipe, r: Row) -> Tally {
+fn case(rt: &impl Print, t: Tally, recipe: Recipe, r: Row) -> io::Result<Tally> {
     if r.count == 0 {
-        return t;
+        return Ok(t);
     }
     let mut b = blank();
     let length = make(&mut b, recipe, r);
-    expect(t, &b, length, expected(r, columns(recipe)))
+    expect(rt, t, &b, length, expected(r, columns(recipe)))
 }
 
 // The cases of a table; each ends with a semicolon or the line.
-pub fn run(mut t: Tally, recipe: Recipe, table: &[u8]) -> Tally {
+pub fn run(rt: &impl Print, mut t: Tally, recipe: Recipe, table: &[u8]) -> io::Result<Tally> {
     let mut r = text::empty_row();
     for i in 0..table.len() {
         r = text::read(r, table[i]);
         if table[i] == b';' || table[i] == b'\n' {
-            t = case(t, recipe, r);
+            t = case(rt, t, recipe, r)?;
             r = text::empty_row();
         }
     }
-    t
+    Ok(t)
 }

@@ -1,5 +1,5 @@
 // Counts the cases of a group and those that differ, and prints them.
-use libc::STDOUT_FILENO;
+use std::io;
 use std::num::wrapping_add_u32;
 
 // `first` is the number of the first case that differs.
@@ -31,35 +31,35 @@ pub fn judge(mut t: Tally, right: bool) -> Tally {
     t
 }
 
-pub fn say(text: &[u8]) {
-    io::write_all(STDOUT_FILENO, text);
+pub fn say(rt: &impl Print, text: &[u8]) -> io::Result<()> {
+    rt.write_all(text)
 }
 
-pub fn say_number(x: u64) {
-    io::print_decimal(STDOUT_FILENO, x);
+pub fn say_number(rt: &impl Print, x: u64) -> io::Result<()> {
+    print!(rt; "{x}")
 }
 
 // What a number is of, and the number.
-pub fn say_count(text: &[u8], x: u64) {
-    say(text);
-    say(b" ");
-    say_number(x);
+pub fn say_count(rt: &impl Print, text: &[u8], x: u64) -> io::Result<()> {
+    say(rt, text)?;
+    say(rt, b" ")?;
+    say_number(rt, x)
 }
 
-pub fn print(group: &[u8], t: Tally) {
-    say_count(group, t.cases as u64);
-    say_count(b" cases,", t.differ as u64);
-    say(b" differ\n");
+pub fn print(rt: &impl Print, group: &[u8], t: Tally) -> io::Result<()> {
+    say_count(rt, group, t.cases as u64)?;
+    say_count(rt, b" cases,", t.differ as u64)?;
+    say(rt, b" differ\n")
 }
 
 // Prints a group, with its first case that differs, and adds it to the total.
-pub fn close(mut total: Tally, group: &[u8], t: Tally) -> Tally {
-    print(group, t);
+pub fn close(rt: &impl Print, mut total: Tally, group: &[u8], t: Tally) -> io::Result<Tally> {
+    print(rt, group, t)?;
     if t.differ != 0 {
-        say_count(b"the first is case", t.first as u64);
-        say(b"\n");
+        say_count(rt, b"the first is case", t.first as u64)?;
+        say(rt, b"\n")?;
     }
     total.cases = wrapping_add_u32(total.cases, t.cases);
     total.differ = wrapping_add_u32(total.differ, t.differ);
-    total
+    Ok(total)
 }

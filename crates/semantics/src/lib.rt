@@ -1,4 +1,3 @@
 // What a graded rule book means, on abstract books: definitions in specs/, their laws in proofs/.
 
 #![tactic(auto)]
-

@@ -9,20 +9,21 @@ mod runs;
 
 use reports::tally;
 use reports::tally::close;
+use std::io;
 
-fn main() {
+fn main(rt: HostRuntime) -> io::Result<()> {
     let mut total = tally::begin();
-    total = close(total, b"heads", cases::heads());
-    total = close(total, b"layout", cases::layout());
-    total = close(total, b"bodies", cases::bodies());
-    total = close(total, b"order", cases::order());
-    total = close(total, b"grids", cases::grids());
-    total = close(total, b"verdicts", cases::verdicts());
-    total = close(total, b"pairs", cases::pairs());
-    total = close(total, b"sets", cases::sets());
-    total = close(total, b"grades", cases::grades());
-    total = close(total, b"links", cases::links());
-    total = close(total, b"links under pairs", cases::links_under_pairs());
-    total = close(total, b"names that recur", recurring::cases());
-    tally::print(b"total", total);
+    total = close(&rt, total, b"heads", cases::heads())?;
+    total = close(&rt, total, b"layout", cases::layout())?;
+    total = close(&rt, total, b"bodies", cases::bodies())?;
+    total = close(&rt, total, b"order", cases::order())?;
+    total = close(&rt, total, b"grids", cases::grids())?;
+    total = close(&rt, total, b"verdicts", cases::verdicts())?;
+    total = close(&rt, total, b"pairs", cases::pairs())?;
+    total = close(&rt, total, b"sets", cases::sets())?;
+    total = close(&rt, total, b"grades", cases::grades())?;
+    total = close(&rt, total, b"links", cases::links())?;
+    total = close(&rt, total, b"links under pairs", cases::links_under_pairs())?;
+    total = close(&rt, total, b"names that recur", recurring::cases())?;
+    tally::print(&rt, b"total", total)
 }

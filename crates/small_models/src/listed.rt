@@ -2,9 +2,9 @@
 // the pairs.
 ghost use Rattle.std.specs.Prelude.{◌≡◌, length};
 
-use crate::grades::link_at;
 use crate::shape::{Shape, cell, is_quantified, number, pair, term};
-use crate::{grades, meets, types};
+use crate::term_grades::link_at;
+use crate::{meets, term_grades, types};
 use reports::numbers::{larger, less, smaller, times};
 use reports::text::{byte, same_bytes, set};
 use std::num::wrapping_add_usize;
@@ -191,7 +191,7 @@ fn right_on(
     fill_names(b, s, types, n, &mut w);
     fill_links(b, s, types, n, &mut w);
     meet_pairs(b, s, n, &mut w);
-    grades::fill(b, s, n, &w, &mut grid);
+    term_grades::fill(b, s, n, &w, &mut grid);
     let first = meets::first_seating(b, s, n, &w, &grid);
     let given = seating(s, marks, placement, n);
     same_bytes(&grid, types)

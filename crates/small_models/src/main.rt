@@ -4,22 +4,24 @@
 
 #![tactic(auto)]
 
-mod grades;
+ghost use Rattle.std.specs.Prelude.{◌≡◌, length};
+
 mod listed;
 mod meets;
 mod random;
 mod shape;
 mod shared;
 mod singles;
+mod term_grades;
 mod types;
 mod worlds;
 
 use decisions::Decision;
-use libc::STDIN_FILENO;
 use reports::tally::{Tally, say, say_count};
 use reports::text::same_bytes;
 use reports::{tally, text};
 use shape::Shape;
+use std::io;
 use std::num::wrapping_add_u64;
 use worlds::Seen;
 
@@ -187,52 +189,59 @@ fn drawn_books(mut sums: Sums, template: &[u8], count: u64) -> Sums {
 }
 
 // What was counted is told, and counting begins anew, with the books drawn from where they were.
-fn next_part(sums: Sums) -> Sums {
-    report(sums);
-    begin(sums.state)
+fn next_part(rt: &impl Print, sums: Sums) -> io::Result<Sums> {
+    report(rt, sums)?;
+    Ok(begin(sums.state))
 }
 
 // A line of the input: a remark after a `#`, a template after the word `draw` or `few`, the end of a part after a `=`, or a book; books and templates
 // are in hexadecimal.
-fn line(sums: Sums, line: &[u8]) -> Sums {
+fn line(rt: &impl Print, sums: Sums, line: &[u8]) -> io::Result<Sums> {
     let sort = text::byte(line, 0);
     match sort {
-        b'#' => sums,
-        b'=' => next_part(sums),
-        b'd' => drawn_books(sums, line, BOOKS),
-        b'f' => drawn_books(sums, line, FEW),
-        _ => written_book(sums, line),
+        b'#' => Ok(sums),
+        b'=' => next_part(rt, sums),
+        b'd' => Ok(drawn_books(sums, line, BOOKS)),
+        b'f' => Ok(drawn_books(sums, line, FEW)),
+        _ => Ok(written_book(sums, line)),
     }
 }
 
-fn lines(mut sums: Sums, input: &[u8]) -> Sums {
+fn lines(rt: &impl Print, mut sums: Sums, input: &[u8]) -> io::Result<Sums> {
     let mut at = 0;
     while at < input.len() {
         let end = text::line_end(input, at);
-        sums = line(sums, &input[at..end]);
+        sums = line(rt, sums, &input[at..end])?;
         at = end + 1;
     }
-    sums
+    Ok(sums)
 }
 
-fn report(sums: Sums) {
+fn report(rt: &impl Print, sums: Sums) -> io::Result<()> {
     let books = sums.books;
     let seen = sums.seen;
-    tally::close(tally::begin(), b"books", books);
-    say_count(b"outcome 1:", sums.ones);
-    say_count(b", 2:", sums.twos);
-    say_count(b", 3:", sums.threes);
-    say_count(b"\ninterpretations", seen.tried);
-    say_count(b", that meet the pairs", seen.ranked);
-    say_count(b", models of the rules", seen.models);
-    say_count(b", of the claims too", seen.met);
-    say(b"\n");
+    tally::close(rt, tally::begin(), b"books", books)?;
+    say_count(rt, b"outcome 1:", sums.ones)?;
+    say_count(rt, b", 2:", sums.twos)?;
+    say_count(rt, b", 3:", sums.threes)?;
+    say_count(rt, b"\ninterpretations", seen.tried)?;
+    say_count(rt, b", that meet the pairs", seen.ranked)?;
+    say_count(rt, b", models of the rules", seen.models)?;
+    say_count(rt, b", of the claims too", seen.met)?;
+    say(rt, b"\n")
 }
 
-fn main() {
-    let mut input = io::large_buffer();
-    let length = io::read_full(STDIN_FILENO, &mut input);
-    say_count(b"seed", random::SEED);
-    say(b"\n");
-    report(lines(begin(random::SEED), &input[..length]));
+// Room for the input.
+fn input_room() -> [u8; 65536]
+    ensures { 65536 ≡ length result }
+{
+    [0; 65536]
+}
+
+fn main(rt: HostRuntime) -> io::Result<()> {
+    let mut input = input_room();
+    let length = reading::read_full(&mut rt.stdin(), &mut input)?;
+    say_count(&rt, b"seed", random::SEED)?;
+    say(&rt, b"\n")?;
+    report(&rt, lines(&rt, begin(random::SEED), &input[..length])?)
 }

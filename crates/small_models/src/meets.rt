@@ -1,6 +1,6 @@
 // Are the rules, pairs and claims met on an interpretation, of which the grid is worked out? `seats` has the element of each individual.
-use crate::grades::link_at;
 use crate::shape::{Shape, cell, link_claim, membership, number, pair, rule, speaks_of};
+use crate::term_grades::link_at;
 use reports::numbers::times;
 use reports::text::{byte, set};
 use std::num::wrapping_add_usize;

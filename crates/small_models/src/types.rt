@@ -1,8 +1,8 @@
 // Candidates and types: the grades of all terms in a candidate, and the candidate that an element's grades show.
 ghost use Rattle.std.specs.Prelude.{◌≤◌};
 
-use crate::grades::joined;
 use crate::shape::{Shape, cell, first_term, is_quantified, term};
+use crate::term_grades::joined;
 use reports::numbers::{times, wide};
 use reports::text::{byte, set};
 use std::num::wrapping_add_usize;

@@ -1,6 +1,6 @@
 // Tries every interpretation of one, two and, where they are few, three elements.
 use crate::shape::{Shape, cell};
-use crate::{grades, meets, types};
+use crate::{meets, term_grades, types};
 use reports::numbers::times;
 use reports::text::{byte, set};
 use std::num::wrapping_add_u64;
@@ -105,7 +105,7 @@ fn world(
     }
     seen.ranked = wrapping_add_u64(seen.ranked, 1);
     let mut grid = [0u8; 32];
-    grades::fill(b, s, n, w, &mut grid);
+    term_grades::fill(b, s, n, w, &mut grid);
     if !meets::rules_met(b, s, n, &grid) {
         return seen;
     }

@@ -11,6 +11,7 @@ use Rattle.supports.proofs.Arcs.{revised_none, revised_map, revised_next, graded
 use Rattle.supports.specs.Arcs.{SupportedTo, ConsistentTo, Revised}
 use Rattle.domains.specs.Gaps.{Gaps}
 use Rattle.arcs.proofs.pass.Goals as goal
+use Rattle.arcs.proofs.pass.Goals.{then-revise_all, else-revise_all}
 
 pub loop-j-init : goal.loop-j-init
 loop-j-init c =
@@ -43,7 +44,7 @@ loop-j-preserved c =
           (ConsistentTo a.logic a.net.now a.ends.now a.count a.rows.now a.individuals (l.j + 1)) a.table.now l.table _ l.changed
           t.result l.invariant.3 t.ensures.revised c.if-revise_all.changed
           (λ z f r. below_more (λ x. SupportedTo a.logic a.net.now a.ends.now a.count a.rows.now x a.individuals z) l.j f r)
-          (⊎_elim (λ w. inl (w.0.taken, w.1)) (λ w. inr (w.0.left, w.1)) c.if-revise_all.branch),
+          (elim c.if-revise_all.branch [ then-revise_all w ↦ inl (w.if-revise_all.true, w.changed-is) | else-revise_all w ↦ inr (w.if-revise_all.false, w.changed-is) ]),
     )
 
 pub shape_of-table : goal.shape_of-table
@@ -55,7 +56,10 @@ shape_of-bounds c = c.loop-j.invariant.1
 pub returns : goal.returns
 returns c =
     let a = c.args in
-    let l = c.loop-j in record { revised = revised_map a.logic a.net.now a.ends.now a.count a.rows.now a.individuals
+    let l = c.loop-j in record {
+      revised = revised_map a.logic a.net.now a.ends.now a.count a.rows.now a.individuals
           (ConsistentTo a.logic a.net.now a.ends.now a.count a.rows.now a.individuals l.j)
           (ConsistentTo a.logic a.net.now a.ends.now a.count a.rows.now a.individuals a.individuals) l.changed a.table.now l.table
-          (λ f i h. f i (omega (arith, h, c.loop-j-test.false))) l.invariant.3; gaps_2 = l.invariant.2 }
+          (λ f i h. f i (omega (arith, h, c.loop-j-test.false))) l.invariant.3;
+      gaps_2 = l.invariant.2;
+    }

@@ -87,7 +87,10 @@ shape_of-bounds c = c.loop-next.invariant.1
 pub returns : goal.returns
 returns c =
     let a = c.args in
-    let l = c.loop-next in record { revised = revised_map a.logic a.net.now a.ends.now a.count a.rows.now a.individuals
+    let l = c.loop-next in record {
+      revised = revised_map a.logic a.net.now a.ends.now a.count a.rows.now a.individuals
           (SupportedTo a.logic a.net.now a.ends.now a.count a.rows.now a.j l.next)
           (SupportedTo a.logic a.net.now a.ends.now a.count a.rows.now a.j a.individuals) l.changed a.table.now l.table
-          (λ f i h. f i (omega (arith, h, c.loop-next-test.false))) l.invariant.3; gaps_2 = l.invariant.2 }
+          (λ f i h. f i (omega (arith, h, c.loop-next-test.false))) l.invariant.3;
+      gaps_2 = l.invariant.2;
+    }

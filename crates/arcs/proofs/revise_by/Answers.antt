@@ -9,7 +9,6 @@ use Rattle.supports.specs.Arcs.{SupportedBy}
 use Rattle.domains.proofs.Gaps.{gaps-noted}
 use Rattle.supports.proofs.Bounds.{constraints_few}
 use Rattle.supports.proofs.Arcs.{revised_not, revised_noted, revised_none}
-use Rattle.std.proofs.lemmas.Bool.{not-false, not-true}
 use Rattle.arcs.proofs.revise_by.Goals as goal
 
 pub between-forth-requires : goal.between-forth-requires
@@ -30,9 +29,12 @@ pub returns-then-back-eq0 : goal.returns-then-back-eq0
 returns-then-back-eq0 c =
     let a = c.args in
     let w = c.requires.problem in
-    let p = c.requires.j_lt_individuals in record { revised = revised_none a.logic a.net.now a.ends.now a.count a.rows.now a.individuals
+    let p = c.requires.j_lt_individuals in record {
+      revised = revised_none a.logic a.net.now a.ends.now a.count a.rows.now a.individuals
           (SupportedBy a.logic a.net.now a.ends.now a.count a.rows.now a.j a.i) a.table.now
-          (λ h. absurd (omega (arith, h, c.if-forth-eq0.true, c.if-back-eq0.true, ap length c.between-forth.ensures, ap length c.between-back.ensures))); gaps_2 = c.requires.gaps.0 }
+          (λ h. absurd (omega (arith, h, c.if-forth-eq0.true, c.if-back-eq0.true, ap length c.between-forth.ensures, ap length c.between-back.ensures)));
+      gaps_2 = c.requires.gaps.0;
+    }
 
 pub revise-requires : goal.revise-requires
 revise-requires c =
@@ -43,13 +45,17 @@ revise-requires c =
     let eb = c.between-back.ensures in
     let f : 8 * a.j + a.i < 64 = omega (arith, p.0, p.1, w.individuals_few) in
     let b : 8 * a.i + a.j < 64 = omega (arith, p.0, p.1, w.individuals_few) in
-    let few = constraints_few a.net.now a.ends.now w.wired.laid in record { all_right = (
+    let few = constraints_few a.net.now a.ends.now w.wired.laid in record {
+      all_right = (
         rw ef (w.wired.right (8 * a.j + a.i) f),
         rw eb (w.wired.right (8 * a.i + a.j) b),
         rw ef (few (8 * a.j + a.i) f),
         rw eb (few (8 * a.i + a.j) b),
         w.wired.few,
-      ); j_lt_individuals = (p.0, p.1, w.individuals_few, p.2, w.candidates_few); in_bounds = (p.3, w.rows_long, p.4, c.requires.gaps.0, c.requires.gaps.1) }
+      );
+      j_lt_individuals = (p.0, p.1, w.individuals_few, p.2, w.candidates_few);
+      in_bounds = (p.3, w.rows_long, p.4, c.requires.gaps.0, c.requires.gaps.1);
+    }
 
 pub shape_of-table-then-not-revise : goal.shape_of-table-then-not-revise
 shape_of-table-then-not-revise c = c.revise.auto.table
@@ -61,11 +67,14 @@ pub returns-then-not-revise : goal.returns-then-not-revise
 returns-then-not-revise c =
     let a = c.args in
     let w = c.requires.problem in
-    let p = c.requires.j_lt_individuals in record { revised = revised_not a.logic a.net.now a.ends.now a.count a.rows.now a.individuals a.j a.i p.0 p.1 p.2 w.candidates_few _ _
+    let p = c.requires.j_lt_individuals in record {
+      revised = revised_not a.logic a.net.now a.ends.now a.count a.rows.now a.individuals a.j a.i p.0 p.1 p.2 w.candidates_few _ _
           c.revise.result a.table.now _
           c.between-forth.ensures
           c.between-back.ensures
-          (not-true c.revise.result (not-true _ c.if-not-revise.true)) c.revise.ensures.revised_by; gaps_2 = c.revise.ensures.gaps }
+          c.if-not-revise.true c.revise.ensures.revised_by;
+      gaps_2 = c.revise.ensures.gaps;
+    }
 
 pub note_gaps-requires : goal.note_gaps-requires
 note_gaps-requires c =
@@ -84,9 +93,12 @@ pub returns : goal.returns
 returns c =
     let a = c.args in
     let w = c.requires.problem in
-    let p = c.requires.j_lt_individuals in record { revised = revised_noted a.logic a.net.now a.ends.now a.count a.rows.now a.individuals a.j a.i p.0 p.1 p.2 w.candidates_few _ _
+    let p = c.requires.j_lt_individuals in record {
+      revised = revised_noted a.logic a.net.now a.ends.now a.count a.rows.now a.individuals a.j a.i p.0 p.1 p.2 w.candidates_few _ _
           c.revise.result a.table.now _ _
           c.between-forth.ensures
           c.between-back.ensures
-          (not-false c.revise.result (not-false _ c.if-not-revise.false))
-          c.revise.ensures.revised_by c.note_gaps.ensures.same; gaps_2 = gaps-noted a.j a.individuals a.count _ _ w.candidates_few c.revise.ensures.gaps c.note_gaps.ensures }
+          c.if-not-revise.false
+          c.revise.ensures.revised_by c.note_gaps.ensures.same;
+      gaps_2 = gaps-noted a.j a.individuals a.count _ _ w.candidates_few c.revise.ensures.gaps c.note_gaps.ensures;
+    }

@@ -11,12 +11,12 @@ use Rattle.asking.proofs.Asking.{answer_number-is, graded-before}
 use Rattle.asking.proofs.grade.Goals as goal
 
 pub grade_in-requires : goal.grade_in-requires
-grade_in-requires c = opened_accepted _ _ (sym c.«open».ensures.0 ∙ c.s-1.given.1)
+grade_in-requires c = opened_accepted _ _ (sym c.in-Accepted.ensures.value)
 
 pub returns-in-Refused : goal.returns-in-Refused
 returns-in-Refused c =
     let w = numbered answer_number (answer_number-is _ _) (sym (graded-before _ (candidate_questions c.args.b.now) 20 21 _ _ _
-    (counted_declined _ _ _ (counted-refused _ _ (sym c.«open».ensures.0 ∙ c.n-1.given.1))))) in record { value = w.0; result_value = w.1 }
+    (counted_declined _ _ _ (counted-refused _ _ (sym c.in-Refused.ensures.value))))) in record { value = w.0; result_value = w.1 }
 
 pub returns-in-Accepted : goal.returns-in-Accepted
 returns-in-Accepted c = let w = numbered answer_number (answer_number-is _ _) c.grade_in.ensures in record { value = w.0; result_value = w.1 }

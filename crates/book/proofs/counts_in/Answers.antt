@@ -32,8 +32,11 @@ returns c =
     let r : c.count_roles.result ≡ role_count (book_of c.args.b.now) =
     c.count_roles.ensures ∙ rw (c.terms_in-2.ensures, c.links_in-links.ensures, c.pairs_in-pairs.ensures) (sym k.2) in
     let i : c.count_individuals.result ≡ individuals (book_of c.args.b.now) =
-    c.count_individuals.ensures ∙ rw (c.memberships_in.ensures, c.links_in-links.ensures) (sym k.3) in record { value = cc; names_bound = (
+    c.count_individuals.ensures ∙ rw (c.memberships_in.ensures, c.links_in-links.ensures) (sym k.3) in record {
+      value = cc;
+      names_bound = (
         omega (arith, right-names c.args.b.now c.args.s c.requires),
         omega (arith, right_roles c.args.b.now c.args.s c.requires),
         omega (arith, right-individuals c.args.b.now c.args.s c.requires),
-      ) }
+      );
+    }

@@ -7,61 +7,60 @@ use Rattle.chain.proofs.Decisions.{told_yes, told_no}
 use Rattle.heads.proofs.Editions.{long_headed}
 use Rattle.book.specs.Opening.{opened_number}
 use Rattle.book.proofs.Opening.{opened_number-is, head_1, head_2, head_3, head_4, head_5, head-none, sections_ordered}
-use Rattle.std.proofs.lemmas.Bool.{not-false, not-true}
 use Rattle.book.proofs.open.Goals as goal
 
 pub returns-then-not-length_right : goal.returns-then-not-length_right
-returns-then-not-length_right c = let w = numbered opened_number (opened_number-is _) (sym (head_1 _ (told_no _ c.length_right.ensures (not-true _ c.if-not-length_right.true)))) in record { value = w.0; result_value = w.1 }
+returns-then-not-length_right c = let w = numbered opened_number (opened_number-is _) (sym (head_1 _ (told_no _ c.length_right.ensures c.if-not-length_right.true))) in record { value = w.0; result_value = w.1 }
 
 pub edition_right-requires : goal.edition_right-requires
-edition_right-requires c = long_headed c.args.b.now (told_yes _ c.length_right.ensures (not-false _ c.if-not-length_right.false)).0
+edition_right-requires c = long_headed c.args.b.now (told_yes _ c.length_right.ensures c.if-not-length_right.false).0
 
 pub returns-then-not-edition_right : goal.returns-then-not-edition_right
 returns-then-not-edition_right c =
-    let w = numbered opened_number (opened_number-is _) (sym (head_2 _ (told_yes _ c.length_right.ensures (not-false _ c.if-not-length_right.false))
-    (told_no _ c.edition_right.ensures (not-true _ c.if-not-edition_right.true)))) in record { value = w.0; result_value = w.1 }
+    let w = numbered opened_number (opened_number-is _) (sym (head_2 _ (told_yes _ c.length_right.ensures c.if-not-length_right.false)
+    (told_no _ c.edition_right.ensures c.if-not-edition_right.true))) in record { value = w.0; result_value = w.1 }
 
 pub steps_right-requires : goal.steps_right-requires
 steps_right-requires c =
-    long_headed c.args.b.now (told_yes _ c.length_right.ensures (not-false _ c.if-not-length_right.false)).0
+    long_headed c.args.b.now (told_yes _ c.length_right.ensures c.if-not-length_right.false).0
 
 pub returns-then-not-steps_right : goal.returns-then-not-steps_right
 returns-then-not-steps_right c =
-    let w = numbered opened_number (opened_number-is _) (sym (head_3 _ (told_yes _ c.length_right.ensures (not-false _ c.if-not-length_right.false)) (told_yes _ c.edition_right.ensures (not-false _ c.if-not-edition_right.false))
-    (told_no _ c.steps_right.ensures (not-true _ c.if-not-steps_right.true)))) in record { value = w.0; result_value = w.1 }
+    let w = numbered opened_number (opened_number-is _) (sym (head_3 _ (told_yes _ c.length_right.ensures c.if-not-length_right.false) (told_yes _ c.edition_right.ensures c.if-not-edition_right.false)
+    (told_no _ c.steps_right.ensures c.if-not-steps_right.true))) in record { value = w.0; result_value = w.1 }
 
 pub counts_right-requires : goal.counts_right-requires
 counts_right-requires c =
-    long_headed c.args.b.now (told_yes _ c.length_right.ensures (not-false _ c.if-not-length_right.false)).0
+    long_headed c.args.b.now (told_yes _ c.length_right.ensures c.if-not-length_right.false).0
 
 pub returns-then-not-counts_right : goal.returns-then-not-counts_right
 returns-then-not-counts_right c =
-    let w = numbered opened_number (opened_number-is _) (sym (head_4 _ (told_yes _ c.length_right.ensures (not-false _ c.if-not-length_right.false)) (told_yes _ c.edition_right.ensures (not-false _ c.if-not-edition_right.false))
-    (told_yes _ c.steps_right.ensures (not-false _ c.if-not-steps_right.false)) (told_no _ c.counts_right.ensures (not-true _ c.if-not-counts_right.true)))) in record { value = w.0; result_value = w.1 }
+    let w = numbered opened_number (opened_number-is _) (sym (head_4 _ (told_yes _ c.length_right.ensures c.if-not-length_right.false) (told_yes _ c.edition_right.ensures c.if-not-edition_right.false)
+    (told_yes _ c.steps_right.ensures c.if-not-steps_right.false) (told_no _ c.counts_right.ensures c.if-not-counts_right.true))) in record { value = w.0; result_value = w.1 }
 
 pub sections_of-s-requires : goal.sections_of-s-requires
 sections_of-s-requires c =
-    long_headed c.args.b.now (told_yes _ c.length_right.ensures (not-false _ c.if-not-length_right.false)).0
+    long_headed c.args.b.now (told_yes _ c.length_right.ensures c.if-not-length_right.false).0
 
 pub laid_out-requires : goal.laid_out-requires
 laid_out-requires c =
-    long_headed c.args.b.now (told_yes _ c.length_right.ensures (not-false _ c.if-not-length_right.false)).0
+    long_headed c.args.b.now (told_yes _ c.length_right.ensures c.if-not-length_right.false).0
 
 pub returns-then-not-laid_out : goal.returns-then-not-laid_out
 returns-then-not-laid_out c =
-    let w = numbered opened_number (opened_number-is _) (sym (head_5 _ (told_yes _ c.length_right.ensures (not-false _ c.if-not-length_right.false)) (told_yes _ c.edition_right.ensures (not-false _ c.if-not-edition_right.false))
-    (told_yes _ c.steps_right.ensures (not-false _ c.if-not-steps_right.false)) (told_yes _ c.counts_right.ensures (not-false _ c.if-not-counts_right.false))
-    (rw (← c.sections_of-s.ensures) (told_no _ c.laid_out.ensures (not-true _ c.if-not-laid_out.true))))) in record { value = w.0; result_value = w.1 }
+    let w = numbered opened_number (opened_number-is _) (sym (head_5 _ (told_yes _ c.length_right.ensures c.if-not-length_right.false) (told_yes _ c.edition_right.ensures c.if-not-edition_right.false)
+    (told_yes _ c.steps_right.ensures c.if-not-steps_right.false) (told_yes _ c.counts_right.ensures c.if-not-counts_right.false)
+    (rw (← c.sections_of-s.ensures) (told_no _ c.laid_out.ensures c.if-not-laid_out.true)))) in record { value = w.0; result_value = w.1 }
 
 pub open_bodies-requires : goal.open_bodies-requires
 open_bodies-requires c =
     let sections-of = c.sections_of-s in
-    rw sections-of.ensures (sections_ordered _ (rw (← sections-of.ensures) (told_yes _ c.laid_out.ensures (not-false _ c.if-not-laid_out.false))))
+    rw sections-of.ensures (sections_ordered _ (rw (← sections-of.ensures) (told_yes _ c.laid_out.ensures c.if-not-laid_out.false)))
 
 pub returns : goal.returns
 returns c =
     let sections-of = c.sections_of-s in
     let w = numbered opened_number (opened_number-is _) (c.open_bodies.ensures ∙ rw sections-of.ensures (sym (head-none _
-    (told_yes _ c.length_right.ensures (not-false _ c.if-not-length_right.false)) (told_yes _ c.edition_right.ensures (not-false _ c.if-not-edition_right.false)) (told_yes _ c.steps_right.ensures (not-false _ c.if-not-steps_right.false))
-    (told_yes _ c.counts_right.ensures (not-false _ c.if-not-counts_right.false))
-    (rw (← sections-of.ensures) (told_yes _ c.laid_out.ensures (not-false _ c.if-not-laid_out.false)))))) in record { value = w.0; result_value = w.1 }
+    (told_yes _ c.length_right.ensures c.if-not-length_right.false) (told_yes _ c.edition_right.ensures c.if-not-edition_right.false) (told_yes _ c.steps_right.ensures c.if-not-steps_right.false)
+    (told_yes _ c.counts_right.ensures c.if-not-counts_right.false)
+    (rw (← sections-of.ensures) (told_yes _ c.laid_out.ensures c.if-not-laid_out.false))))) in record { value = w.0; result_value = w.1 }

@@ -6,15 +6,12 @@ use lib.ListN.{length}
 use Rattle.columns.proofs.Bounds.{block_row-end, part-long, part_at}
 use Rattle.cells.proofs.link.Goals as goal
 
-row_fits : (s : tie.Start) → s.args.n * (s.args.n * s.args.role + s.args.e) + s.args.n ≤ length s.args.links.now
-row_fits s = omega (arith, block_row-end s.args.n s.args.role (s.args.role + 1) s.args.e (omega arith) s.requires.1, s.requires.3)
-
 pub links_from-row-requires : goal.links_from-row-requires
-links_from-row-requires c = (c.requires.0, c.requires.1, row_fits c)
+links_from-row-requires c = (c.requires.0, c.requires.1, (let h : c.args.n * (c.args.n * c.args.role + c.args.e) + c.args.n ≤ length c.args.links.now = omega (arith, block_row-end c.args.n c.args.role (c.args.role + 1) c.args.e (omega arith) c.requires.1, c.requires.3) in h))
 
 pub bounds-row-f : goal.bounds-row-f
 bounds-row-f c =
-    omega (arith, c.requires.2, part-long c.args.links.now _ c.args.n _ c.links_from-row.ensures (row_fits s))
+    omega (arith, c.requires.2, part-long c.args.links.now _ c.args.n _ c.links_from-row.ensures (let h : c.args.n * (c.args.n * c.args.role + c.args.e) + c.args.n ≤ length c.args.links.now = omega (arith, block_row-end c.args.n c.args.role (c.args.role + 1) c.args.e (omega arith) c.requires.1, c.requires.3) in h))
 
 pub returns : goal.returns
 returns c =

@@ -7,7 +7,7 @@ use Rattle.chain.proofs.Decisions.{tells_yes, tells_no}
 use Rattle.cells.proofs.met.Goals as goal
 
 pub returns-in-Meets : goal.returns-in-Meets
-returns-in-Meets c = tells_yes c.enum_told-1.given.1
+returns-in-Meets c = tells_yes c.in-Meets.is
 
 pub returns-in_default : goal.returns-in_default
 returns-in_default c = tells_no (λ e. ⊎_elim (λ t. omega arith) (λ u. ⊎_elim (λ t. omega arith) (λ w. ⊎_elim (λ t. omega arith) (λ t. omega arith) w) u) (rw e at c.in_default.keys2))

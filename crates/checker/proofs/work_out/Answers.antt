@@ -10,12 +10,12 @@ use Rattle.checker.proofs.Working.{worked_number-is, work_book, refused}
 use Rattle.checker.proofs.work_out.Goals as goal
 
 pub work_in-requires : goal.work_in-requires
-work_in-requires c = opened_accepted _ _ (sym c.«open».ensures.0 ∙ c.s-1.given.1)
+work_in-requires c = opened_accepted _ _ (sym c.in-Accepted.ensures.value)
 
 pub returns-in-Refused : goal.returns-in-Refused
 returns-in-Refused c =
     let w = numbered-and worked_number (worked_number-is _ _ _) (refused _ _ _ _ _ (work_book _ c.args.sheet.now (length c.args.grid.now) _
-    (sym c.«open».ensures.0 ∙ c.n-1.given.1))) in record { value = w.0; result_value = w.1.0; grid_after = w.1.1 }
+    (sym c.in-Refused.ensures.value))) in record { value = w.0; result_value = w.1.0; grid_after = w.1.1 }
 
 pub returns-in-Accepted : goal.returns-in-Accepted
-returns-in-Accepted c = let w = numbered-and worked_number (worked_number-is _ _ _) c.work_in.ensures in record { value = w.0; result_value = w.1.0; grid_after = w.1.1 }
+returns-in-Accepted c = let w = numbered-and worked_number (worked_number-is _ _ _) (c.work_in.ensures.value, c.work_in.ensures.grid_after) in record { value = w.0; result_value = w.1.0; grid_after = w.1.1 }

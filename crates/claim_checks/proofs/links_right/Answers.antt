@@ -6,7 +6,6 @@ use borrow.Author.Count.{below_none, below_more}
 use borrow.Author.Rules.{rules}
 use Rattle.chain.proofs.Decisions.{tells_yes, tells_no, told_yes, told_no}
 use Rattle.claims.specs.Claims.{claim_count, link_record, LinkRight}
-use Rattle.std.proofs.lemmas.Bool.{not-false, not-true}
 use Rattle.claim_checks.proofs.links_right.Goals as goal
 
 pub loop-i-init : goal.loop-i-init
@@ -15,12 +14,12 @@ loop-i-init c = (omega arith, below_none _)
 pub returns-then-not-link_right : goal.returns-then-not-link_right
 returns-then-not-link_right c =
     let l = c.loop-i in
-    tells_no (λ h. told_no _ c.link_right.ensures (not-true _ c.if-not-link_right.true) (rw c.link_claim_at.ensures (h l.i (omega arith))))
+    tells_no (λ h. told_no _ c.link_right.ensures c.if-not-link_right.true (rw c.link_claim_at.ensures (h l.i (omega arith))))
 
 pub loop-i-preserved : goal.loop-i-preserved
 loop-i-preserved c =
     let l = c.loop-i in
-    let here = rw c.link_claim_at.ensures at (told_yes _ c.link_right.ensures (not-false _ c.if-not-link_right.false)) in
+    let here = rw c.link_claim_at.ensures at (told_yes _ c.link_right.ensures c.if-not-link_right.false) in
     (omega arith, below_more _ l.i l.invariant.1 here)
 
 pub returns : goal.returns

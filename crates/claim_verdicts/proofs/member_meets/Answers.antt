@@ -4,14 +4,13 @@ use mathlib.Core.Path.{ap, ◌∙◌}
 use borrow.Author.Rules.{rules}
 use Rattle.chain.proofs.Decisions.{tells_yes, told_yes, told_no, tells_map}
 use Rattle.columns.specs.Columns.{cell_at}
-use Rattle.std.proofs.lemmas.Bool.{not-false, not-true}
 use Rattle.claim_verdicts.proofs.member_meets.Goals as goal
 
 pub returns-then-not-mentions : goal.returns-then-not-mentions
-returns-then-not-mentions c = tells_yes (λ m. absurd (told_no _ c.mentions.ensures (not-true _ c.if-not-mentions.true) m))
+returns-then-not-mentions c = tells_yes (λ m. absurd (told_no _ c.mentions.ensures c.if-not-mentions.true m))
 
 pub returns : goal.returns
 returns c =
     let a = c.args in
     let g = c.cell.ensures ∙ ap (cell_at a.values.now a.claim.term) c.element.ensures.0 in
-    tells_map _ (λ h _. rw (← g) h) (λ h. rw g (h (told_yes _ c.mentions.ensures (not-false _ c.if-not-mentions.false)))) c.claimed.ensures
+    tells_map _ (λ h _. rw (← g) h) (λ h. rw g (h (told_yes _ c.mentions.ensures c.if-not-mentions.false))) c.claimed.ensures

@@ -10,7 +10,6 @@ use Rattle.columns.specs.Columns.{cell_at}
 use Rattle.cells.specs.Cells.{element_in}
 use Rattle.claim_verdicts.specs.Covered.{MeetsIfMentioned}
 use Rattle.claim_verdicts.proofs.Judging.{members_met, members_unmet}
-use Rattle.std.proofs.lemmas.Bool.{not-false, not-true}
 use Rattle.claim_verdicts.proofs.members_meet.Goals as goal
 
 pub loop-j-init : goal.loop-j-init
@@ -24,10 +23,10 @@ pub returns-then-not-member_meets : goal.returns-then-not-member_meets
 returns-then-not-member_meets c =
     let s = c.args in
     tells_no (members_unmet (cell_at s.values.now) (element_in s.individuals.now) (membership_of s.claim)
-    c.loop-j.j (told_no _ c.member_meets.ensures (not-true _ c.if-not-member_meets.true)))
+    c.loop-j.j (told_no _ c.member_meets.ensures c.if-not-member_meets.true))
 
 pub loop-j-preserved : goal.loop-j-preserved
-loop-j-preserved c = below_more _ c.loop-j.j c.loop-j.invariant (told_yes _ c.member_meets.ensures (not-false _ c.if-not-member_meets.false))
+loop-j-preserved c = below_more _ c.loop-j.j c.loop-j.invariant (told_yes _ c.member_meets.ensures c.if-not-member_meets.false)
 
 pub returns : goal.returns
 returns c =

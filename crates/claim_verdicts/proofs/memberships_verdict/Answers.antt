@@ -12,7 +12,6 @@ use Rattle.working.proofs.Working.{first_start, first_more, first-end, first_fou
 use Rattle.columns.specs.Columns.{cell_at}
 use Rattle.cells.specs.Cells.{element_in}
 use Rattle.claim_verdicts.proofs.Judging.{memberships-first}
-use Rattle.std.proofs.lemmas.Bool.{not-false, not-true}
 use Rattle.claim_verdicts.proofs.memberships_verdict.Goals as goal
 
 pub loop-i-init : goal.loop-i-init
@@ -22,10 +21,10 @@ pub membership_verdict-v-requires : goal.membership_verdict-v-requires
 membership_verdict-v-requires c = record { i_bound = (omega arith, c.requires.memberships_covered c.loop-i.i (omega arith)); n_bound = c.requires.n_bound }
 
 pub returns-then-not-met : goal.returns-then-not-met
-returns-then-not-met c = first_found _ _ c.loop-i.i _ (omega arith) c.loop-i.invariant.1 c.membership_verdict-v.ensures (told_no _ c.met.ensures (not-true _ c.if-not-met.true)) ∙ sym (memberships-first _ _ _)
+returns-then-not-met c = first_found _ _ c.loop-i.i _ (omega arith) c.loop-i.invariant.1 c.membership_verdict-v.ensures (told_no _ c.met.ensures c.if-not-met.true) ∙ sym (memberships-first _ _ _)
 
 pub loop-i-preserved : goal.loop-i-preserved
-loop-i-preserved c = (omega arith, first_more _ c.loop-i.i c.loop-i.invariant.1 (sym c.membership_verdict-v.ensures ∙ told_yes _ c.met.ensures (not-false _ c.if-not-met.false)))
+loop-i-preserved c = (omega arith, first_more _ c.loop-i.i c.loop-i.invariant.1 (sym c.membership_verdict-v.ensures ∙ told_yes _ c.met.ensures c.if-not-met.false))
 
 pub returns : goal.returns
 returns c = first-end _ _ c.loop-i.i (omega arith) c.loop-i.invariant.1 ∙ sym (memberships-first _ _ _)

@@ -8,7 +8,6 @@ use borrow.Author.Tests.{not-true, not-false}
 use borrow.Author.Rules.{rules}
 use Rattle.reads.specs.Classes.{Thinning}
 use Rattle.reads.proofs.Classes.{thinning_start, thinning_end, thinning_off, thinning_new, thinning_gone, kept_le, matched_by}
-use Rattle.std.proofs.lemmas.Bool.{not-false, not-true}
 use Rattle.classes.proofs.thin_by.Goals as goal
 
 pub loop-next-init : goal.loop-next-init
@@ -53,7 +52,7 @@ loop-next-preserved-then-not-matched c =
       omega (arith, c.loop-next-test.true),
       thinning_new a.list.now a.rows.now a.j a.count a.table.now l.table l.memory l.next l.invariant.3 _
           c.loop-next-test.true c.if-table-j-ne1.false
-          (matched_by a.list.now a.rows.now l.next l.memory _ t.result _ (not-true t.result (not-true _ c.if-not-matched.true)) t.ensures),
+          (matched_by a.list.now a.rows.now l.next l.memory _ t.result _ c.if-not-matched.true t.ensures),
     )
 
 pub bounds-table-j-in-loop-next : goal.bounds-table-j-in-loop-next
@@ -75,7 +74,7 @@ loop-next-preserved c =
       thinning_gone a.list.now a.rows.now a.j a.count a.table.now l.table l.memory l.next l.invariant.3 _
           c.loop-next-test.true p.4
           (omega (arith, l.invariant.0, c.loop-next-test.true, p.1, p.3, p.4))
-          (matched_by a.list.now a.rows.now l.next l.memory _ t.result _ (not-false t.result (not-false _ c.if-not-matched.false)) t.ensures),
+          (matched_by a.list.now a.rows.now l.next l.memory _ t.result _ c.if-not-matched.false t.ensures),
     )
 
 pub shape_of-table : goal.shape_of-table

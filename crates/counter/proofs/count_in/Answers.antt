@@ -14,13 +14,13 @@ terms_in-requires c = right-ordered _ _ c.requires
 
 pub count_candidates-requires : goal.count_candidates-requires
 count_candidates-requires c =
-    let w = rw c.terms_in.ensures (c.requires.terms_right, omega (arith, right-terms _ _ c.requires, right-few _ _ c.requires)) in record { terms_right = w.0; terms_bound = w.1 }
+    record { terms_right = rw c.terms_in.ensures c.requires.terms_right; terms_bound = rw c.terms_in.ensures (omega (arith, right-terms _ _ c.requires, right-few _ _ c.requires)) }
 
 pub returns-in-Exactly : goal.returns-in-Exactly
 returns-in-Exactly c =
-    let e = exactly_bounded _ _ (sym c.count_candidates.ensures ∙ c.n-1.given.1) in sym
+    let e = exactly_bounded _ _ (sym c.in-Exactly.ensures) in sym
     (counted-few c.args.b.now c.args.s c.requires _ (rw (← c.terms_in.ensures) e.0) (omega (arith, e)))
 
 pub returns-in-More : goal.returns-in-More
 returns-in-More c =
-    sym (counted_many c.args.b.now c.args.s c.requires (rw (← c.terms_in.ensures) (more-bounded _ (sym c.count_candidates.ensures ∙ c.enum_told-1.given.1))))
+    sym (counted_many c.args.b.now c.args.s c.requires (rw (← c.terms_in.ensures) (more-bounded _ (sym c.in-More.ensures))))

@@ -6,4 +6,4 @@ use Rattle.book.proofs.Opening.{opened_accepted}
 use Rattle.decide.proofs.main.Goals as goal
 
 pub print_decision-requires : goal.print_decision-requires
-print_decision-requires c = opened_accepted _ _ (sym c.«open».ensures.0 ∙ c.s-1.given.1)
+print_decision-requires c = opened_accepted _ _ (sym c.in-Accepted.ensures.value)

@@ -11,13 +11,13 @@ use Rattle.decider.proofs.Deciding.{decide_before, refused, decision_number-is}
 use Rattle.decider.proofs.decide.Goals as goal
 
 pub decide_in-requires : goal.decide_in-requires
-decide_in-requires c = opened_accepted _ _ (sym c.«open».ensures.0 ∙ c.s-1.given.1)
+decide_in-requires c = opened_accepted _ _ (sym c.in-Accepted.ensures.value)
 
 pub returns-in-Refused : goal.returns-in-Refused
 returns-in-Refused c =
     let w = numbered-and decision_number (decision_number-is _ _) (refused _ _ c.args.marks.now c.args.placement.now _
     (decide_before c.args.b.now (length c.args.marks.now) (length c.args.placement.now) _
-    (counted_declined _ _ _ (counted-refused _ _ (sym c.«open».ensures.0 ∙ c.n-1.given.1))))) in record { value = w.0; result_value = w.1.0; marks_after = w.1.1.0; placement_after = w.1.1.1 }
+    (counted_declined _ _ _ (counted-refused _ _ (sym c.in-Refused.ensures.value))))) in record { value = w.0; result_value = w.1.0; marks_after = w.1.1.0; placement_after = w.1.1.1 }
 
 pub returns-in-Accepted : goal.returns-in-Accepted
-returns-in-Accepted c = let w = numbered-and decision_number (decision_number-is _ _) c.decide_in.ensures in record { value = w.0; result_value = w.1.0; marks_after = w.1.1.0; placement_after = w.1.1.1 }
+returns-in-Accepted c = let w = numbered-and decision_number (decision_number-is _ _) (c.decide_in.ensures.value, (c.decide_in.ensures.marks_after, c.decide_in.ensures.placement_after)) in record { value = w.0; result_value = w.1.0; marks_after = w.1.1.0; placement_after = w.1.1.1 }

@@ -8,12 +8,12 @@ use Rattle.decider.proofs.Deciding.{decide_before, refused}
 use Rattle.decider.proofs.decide_in.Goals as goal
 
 pub decide_counted-requires : goal.decide_counted-requires
-decide_counted-requires c = record { right = c.requires; b_value = sym c.count_in.ensures ∙ c.k-1.given.1 }
+decide_counted-requires c = record { right = c.requires; b_value = sym c.in-Candidates.ensures }
 
 pub returns-in-Refused : goal.returns-in-Refused
 returns-in-Refused c =
     let w = refused _ _ c.args.marks.now c.args.placement.now _
-    (decide_before c.args.b.now (length c.args.marks.now) (length c.args.placement.now) _ (counted_declined _ _ _ (sym c.count_in.ensures ∙ c.n-1.given.1))) in record { value = w.0; marks_after = w.1.0; placement_after = w.1.1 }
+    (decide_before c.args.b.now (length c.args.marks.now) (length c.args.placement.now) _ (counted_declined _ _ _ (sym c.in-Refused.ensures))) in record { value = w.0; marks_after = w.1.0; placement_after = w.1.1 }
 
 pub returns-in-Candidates : goal.returns-in-Candidates
-returns-in-Candidates c = let w = c.decide_counted.ensures in record { value = w.0; marks_after = w.1.0; placement_after = w.1.1 }
+returns-in-Candidates c = c.decide_counted.ensures

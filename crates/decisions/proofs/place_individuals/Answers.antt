@@ -13,7 +13,6 @@ use Rattle.decisions.proofs.Decided.{outcome_1, outcome_2}
 use Rattle.decisions.specs.Decided.{placed_in}
 use Rattle.book.specs.declared.Counts.{Counts}
 use Rattle.book.specs.Reading.{book_of}
-use Rattle.std.proofs.lemmas.Bool.{not-false, not-true}
 use Rattle.decisions.proofs.place_individuals.Goals as goal
 
 pub counts_in-counts-requires : goal.counts_in-counts-requires
@@ -22,12 +21,12 @@ counts_in-counts-requires c = c.requires.equipped.right
 pub seat-requires : goal.seat-requires
 seat-requires c =
     let counts-in = c.counts_in-counts in
-    record { equipped = c.requires.equipped; count_bound = c.requires.count_bound; individuals_value = (ap (λ (k : Counts). k.individuals) counts-in.ensures.0, omega (arith, counts-in.ensures.1)) }
+    record { equipped = c.requires.equipped; count_bound = c.requires.count_bound; individuals_value = (ap (λ (k : Counts). k.individuals) counts-in.ensures.value, omega (arith, counts-in.ensures.names_bound)) }
 
 pub returns-then-not-seat : goal.returns-then-not-seat
 returns-then-not-seat c =
     let seat = c.seat in
-    let o = outcome_2 (book_of c.args.b.now) c.requires.nonzero.0 seat.result (take c.counts_in-counts.result.individuals seat.new.seats) seat.ensures (not-true _ (not-true _ c.if-not-seat.true)) in
+    let o = outcome_2 (book_of c.args.b.now) c.requires.nonzero.0 seat.result (take c.counts_in-counts.result.individuals seat.new.seats) seat.ensures c.if-not-seat.true in
     record { value = o.0; placement_after = o.1 _ }
 
 pub slice_bounds-seats-end : goal.slice_bounds-seats-end
@@ -40,11 +39,11 @@ pub write_placement-requires : goal.write_placement-requires
 write_placement-requires c =
     let counts-in = c.counts_in-counts in
     let seat = c.seat in
-    omega (arith, length-take-le counts-in.result.individuals seat.new.seats (omega (arith, counts-in.ensures.1, seat.auto)), counts-in.ensures.1, c.requires.nonzero.1)
+    omega (arith, length-take-le counts-in.result.individuals seat.new.seats (omega (arith, counts-in.ensures.names_bound, seat.auto)), counts-in.ensures.names_bound, c.requires.nonzero.1)
 
 pub returns : goal.returns
 returns c =
     let counts-in = c.counts_in-counts in
     let seat = c.seat in
-    let o = outcome_1 (book_of c.args.b.now) c.requires.nonzero.0 seat.result (take counts-in.result.individuals seat.new.seats) seat.ensures (not-false _ (not-false _ c.if-not-seat.false)) in
+    let o = outcome_1 (book_of c.args.b.now) c.requires.nonzero.0 seat.result (take counts-in.result.individuals seat.new.seats) seat.ensures c.if-not-seat.false in
     record { value = o.0; placement_after = c.write_placement.ensures ∙ ap (λ (p : Option (List ℕ)). placed_in p c.args.placement.now) (sym o.1) }

@@ -20,8 +20,11 @@ links_in-requires c =
 
 pub place-requires : goal.place-requires
 place-requires c =
-    record { task = placing c.args.b.now c.args.s c.args.logic c.args.slots.now c.requires.equipped _ _ _ c.terms_in.ensures c.memberships_in.ensures
-          c.links_in.ensures c.args.marks.now c.args.count c.args.individuals c.requires.count_bound.0 c.requires.count_bound.1 c.requires.individuals_value.0; individuals_in_bounds = c.requires.individuals_value.1 }
+    record {
+      task = placing c.args.b.now c.args.s c.args.logic c.args.slots.now c.requires.equipped _ _ _ c.terms_in.ensures c.memberships_in.ensures
+          c.links_in.ensures c.args.marks.now c.args.count c.args.individuals c.requires.count_bound.0 c.requires.count_bound.1 c.requires.individuals_value.0;
+      individuals_in_bounds = c.requires.individuals_value.1;
+    }
 
 pub returns : goal.returns
 returns c =

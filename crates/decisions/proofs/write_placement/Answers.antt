@@ -18,16 +18,15 @@ pub write_word-requires : goal.write_word-requires
 write_word-requires c = omega (arith, c.loop-i.invariant.1, c.requires)
 
 pub loop-i-preserved : goal.loop-i-preserved
-loop-i-preserved c =
-    (
-      omega arith,
-      omega
-          (arith, c.write_word.auto, c.loop-i.invariant.1),
-      c.write_word.ensures ∙ placement_turn c.args.seats.now c.args.placement.now
-          c.loop-i.i c.loop-i.placement
-          (omega arith) c.requires c.loop-i.invariant.1
-          c.loop-i.invariant.2,
-    )
+loop-i-preserved c = (
+  omega arith,
+  omega
+      (arith, c.write_word.auto, c.loop-i.invariant.1),
+  c.write_word.ensures ∙ placement_turn c.args.seats.now c.args.placement.now
+      c.loop-i.i c.loop-i.placement
+      (omega arith) c.requires c.loop-i.invariant.1
+      c.loop-i.invariant.2,
+)
 
 pub shape_of-placement : goal.shape_of-placement
 shape_of-placement c = c.loop-i.invariant.1

@@ -29,12 +29,17 @@ enter-t-requires c =
     let a = c.args in
     let i = c.loop-c.invariant in
     let taken = c.loop-c-test.true in
-    let r = c.requires.roomy in record { task = (subst (Task a.logic a.terms.now a.slots.now a.rules.now) (sym i.1.6) c.requires.task, c.find_homes-homes.ensures); roomy = (
-          (omega (arith, i.1, r.0), omega (arith, i.1, r.0), omega (arith, i.1, r.0), omega (arith, i.1, r.0)),
-          omega (arith, i.1, r.1),
-          omega (arith, i.1, r.2),
-          omega (arith, i.1),
-        ); entered = i.2; indexed = i.3 }
+    let r = c.requires.roomy in record {
+      task = (subst (Task a.logic a.terms.now a.slots.now a.rules.now) (sym i.1.6) c.requires.task, c.find_homes-homes.ensures);
+      roomy = (
+        (omega (arith, i.1, r.0), omega (arith, i.1, r.0), omega (arith, i.1, r.0), omega (arith, i.1, r.0)),
+        omega (arith, i.1, r.1),
+        omega (arith, i.1, r.2),
+        omega (arith, i.1),
+      );
+      entered = i.2;
+      indexed = i.3;
+    }
 
 pub overflow_add-c : goal.overflow_add-c
 overflow_add-c c =

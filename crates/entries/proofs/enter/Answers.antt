@@ -16,7 +16,7 @@ use Rattle.entries.proofs.enter.Goals as goal
 
 pub fill_row-requires : goal.fill_row-requires
 fill_row-requires c =
-    record { terms_right = c.requires.task.0.terms_right; terms_bound = (c.requires.task.0.few_terms, omega (arith, c.requires.task.0.few_terms), c.requires.task.1, omega (arith, c.requires.task.0.few, s.requires.1)) }
+    record { terms_right = c.requires.task.0.terms_right; terms_bound = (c.requires.task.0.few_terms, omega (arith, c.requires.task.0.few_terms), c.requires.task.1, omega (arith, c.requires.task.0.few, c.requires.roomy)) }
 
 pub mark_by_rules-mark-requires : goal.mark_by_rules-mark-requires
 mark_by_rules-mark-requires c =
@@ -50,7 +50,10 @@ returns c =
     let shown = slot_row-same a.slots.now _ (length terms) (grade_in G a.c) _ (slots-below terms ordered a.slots.now w.slots_are) grades
     c.put_slot_row.ensures in
     let e = c.classify.ensures in
-    let one = c.mark_by_rules-mark.ensures in record { entered_2 = entered_more G a.rules.now (subst (RulesRight a.rules.now) (sym (length-terms a.terms.now)) w.rules_right) a.slots.now
+    let one = c.mark_by_rules-mark.ensures in record {
+      entered_2 = entered_more G a.rules.now (subst (RulesRight a.rules.now) (sym (length-terms a.terms.now)) w.rules_right) a.slots.now
           a.own.now a.child.now a.source.now a.target.now a.marks.now w.few_slots a.c a.t _ c.requires.entered _ _ _ _ row _ _
           grades c.mark_by_rules-mark.result c.requires.roomy.3 one.0 one.1 e.indexed_2.1
-          (part-own a.slots.now (grade_in G a.c) _ shown) (part-child a.slots.now (grade_in G a.c) _ shown) e.enrolled e.enrolled_2; indexed_2 = e.indexed_2.0 }
+          (part-own a.slots.now (grade_in G a.c) _ shown) (part-child a.slots.now (grade_in G a.c) _ shown) e.enrolled e.enrolled_2;
+      indexed_2 = e.indexed_2.0;
+    }

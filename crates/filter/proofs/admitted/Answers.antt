@@ -4,7 +4,6 @@ use mathlib.Core.Path.{refl}
 use Prim.Native.Nat.{◌+◌, ◌*◌}
 use native.Mathlib.Omega.{arith}
 use Rattle.chain.proofs.Decisions.{told_yes, told_no}
-use Rattle.std.proofs.lemmas.Bool.{not-false, not-true}
 use Rattle.filter.proofs.admitted.Goals as goal
 
 pub returns-then-fits-ne1 : goal.returns-then-fits-ne1
@@ -20,9 +19,9 @@ all_met-requires c =
 
 pub returns-then-not-all_met : goal.returns-then-not-all_met
 returns-then-not-all_met c =
-    (λ e. absurd (omega arith), λ h. absurd (told_no _ c.all_met.ensures (not-true _ c.if-not-all_met.true) (rw c.between.ensures h.1)))
+    (λ e. absurd (omega arith), λ h. absurd (told_no _ c.all_met.ensures c.if-not-all_met.true (rw c.between.ensures h.1)))
 
 pub returns : goal.returns
 returns c =
     let b = c.between.ensures in
-    (λ _. (c.if-fits-ne1.false, rw (← b) (told_yes _ c.all_met.ensures (not-false _ c.if-not-all_met.false))), λ _. refl)
+    (λ _. (c.if-fits-ne1.false, rw (← b) (told_yes _ c.all_met.ensures c.if-not-all_met.false)), λ _. refl)

@@ -18,12 +18,16 @@ loop-entered-preserved-then-marks-c-ne1 c = let l = c.loop-entered in (omega ari
 pub enter-requires : goal.enter-requires
 enter-requires c =
     let l = c.loop-entered in
-    let p = c.requires.problem in record { task = (c.requires.task, c.find_homes-homes.ensures); wired = p.wired; individuals_bound = (
-          p.individuals_few,
-          omega (arith, c.loop-entered-test.true, p.candidates_few),
-          omega (arith, l.invariant.1, p.rows_long),
-          omega (arith, l.invariant.2, c.requires.count_in_bounds.1),
-        ) }
+    let p = c.requires.problem in record {
+      task = (c.requires.task, c.find_homes-homes.ensures);
+      wired = p.wired;
+      individuals_bound = (
+        p.individuals_few,
+        omega (arith, c.loop-entered-test.true, p.candidates_few),
+        omega (arith, l.invariant.1, p.rows_long),
+        omega (arith, l.invariant.2, c.requires.count_in_bounds.1),
+      );
+    }
 
 pub loop-entered-preserved : goal.loop-entered-preserved
 loop-entered-preserved c =

@@ -10,23 +10,17 @@ use Rattle.chain.proofs.Blocks.{block_fits}
 use Rattle.columns.proofs.Columns.{rows_none, rows_more}
 use Rattle.grid_rows.proofs.write_grid.Goals as goal
 
-row_fits : (c : tie.In-loop invariant-loop decreases-loop)
-    → c.before.loop.e * c.before.before.before.before.args.t + c.before.before.before.before.args.t ≤ length c.before.loop.grid
-row_fits c =
-    let s = c.before.before.before.before in
-    omega (arith, block_fits s.args.t c.before.loop.e s.args.n c.loop-test.true, c.before.loop.invariant.1, s.requires.3)
-
 pub loop-e-init : goal.loop-e-init
 loop-e-init c = (omega arith, omega arith, rows_none _ _ _)
 
 pub overflow_mul-start : goal.overflow_mul-start
-overflow_mul-start c = omega (arith, row_fits c)
+overflow_mul-start c = omega (arith, (let h : c.loop-e.e * c.args.t + c.args.t ≤ length c.loop-e.grid = omega (arith, block_fits c.args.t c.loop-e.e c.args.n c.loop-e-test.true, c.loop-e.invariant.1, c.requires.3) in h))
 
 pub overflow_add-end : goal.overflow_add-end
-overflow_add-end c = omega (arith, row_fits c)
+overflow_add-end c = omega (arith, (let h : c.loop-e.e * c.args.t + c.args.t ≤ length c.loop-e.grid = omega (arith, block_fits c.args.t c.loop-e.e c.args.n c.loop-e-test.true, c.loop-e.invariant.1, c.requires.3) in h))
 
 pub slice_bounds-write_row-count : goal.slice_bounds-write_row-count
-slice_bounds-write_row-count c = omega (arith, row_fits c)
+slice_bounds-write_row-count c = omega (arith, (let h : c.loop-e.e * c.args.t + c.args.t ≤ length c.loop-e.grid = omega (arith, block_fits c.args.t c.loop-e.e c.args.n c.loop-e-test.true, c.loop-e.invariant.1, c.requires.3) in h))
 
 pub write_row-requires : goal.write_row-requires
 write_row-requires c =
@@ -48,7 +42,7 @@ loop-e-preserved c =
       omega (arith, c.loop-e-test.true),
       c.grid-1.given.1 ∙ t.invariant.1,
       rows_more c.args.values.now c.args.t t.e t.grid c.args.grid.now c.write_row.new.row t.invariant.2
-          (row_fits c) c.write_row.ensures,
+          (let h : c.loop-e.e * c.args.t + c.args.t ≤ length c.loop-e.grid = omega (arith, block_fits c.args.t c.loop-e.e c.args.n c.loop-e-test.true, c.loop-e.invariant.1, c.requires.3) in h) c.write_row.ensures,
     )
 
 pub shape_of-grid : goal.shape_of-grid

@@ -9,12 +9,6 @@ use Rattle.columns.specs.Workable.{WorkedTo, WorkedIn}
 use Rattle.columns.proofs.Workable.{worked_kept, worked_cell, worked_column}
 use Rattle.grids.proofs.fill_column.Goals as goal
 
-room : (c : tie.In-loop invariant-loop decreases-loop)
-    → 64 * c.before.before.before.before.before.before.args.i + c.before.loop.e < length c.before.loop.values
-room c =
-    let s = c.before.before.before.before.before.before in
-    omega (arith, c.before.loop.invariant.1, s.requires.1.0, s.requires.0.1.few_terms, s.requires.0.1.few_elements, c.loop-test.true)
-
 pub loop-e-init : goal.loop-e-init
 loop-e-init c = (omega arith, omega arith, c.requires.worked_to, λ js. below_none _)
 
@@ -24,16 +18,16 @@ grade-g-requires c =
     record { evaluable = c.requires.evaluable; i_bound = (c.requires.i_bound.0, c.loop-e-test.true, omega (arith, t.invariant.1, c.requires.i_bound.1)); worked_to = t.invariant.2 }
 
 pub overflow_mul-values : goal.overflow_mul-values
-overflow_mul-values c = omega (arith, room c)
+overflow_mul-values c = omega (arith, (let h : 64 * c.args.i + c.loop-e.e < length c.loop-e.values = omega (arith, c.loop-e.invariant.1, c.requires.i_bound.0, c.requires.evaluable.1.few_terms, c.requires.evaluable.1.few_elements, c.loop-e-test.true) in h))
 
 pub overflow_add-values : goal.overflow_add-values
-overflow_add-values c = omega (arith, room c)
+overflow_add-values c = omega (arith, (let h : 64 * c.args.i + c.loop-e.e < length c.loop-e.values = omega (arith, c.loop-e.invariant.1, c.requires.i_bound.0, c.requires.evaluable.1.few_terms, c.requires.evaluable.1.few_elements, c.loop-e-test.true) in h))
 
 pub bounds-values-i : goal.bounds-values-i
-bounds-values-i c = omega (arith, room c)
+bounds-values-i c = omega (arith, (let h : 64 * c.args.i + c.loop-e.e < length c.loop-e.values = omega (arith, c.loop-e.invariant.1, c.requires.i_bound.0, c.requires.evaluable.1.few_terms, c.requires.evaluable.1.few_elements, c.loop-e-test.true) in h))
 
 pub overflow_add-e : goal.overflow_add-e
-overflow_add-e c = omega (arith, room c)
+overflow_add-e c = omega (arith, (let h : 64 * c.args.i + c.loop-e.e < length c.loop-e.values = omega (arith, c.loop-e.invariant.1, c.requires.i_bound.0, c.requires.evaluable.1.few_terms, c.requires.evaluable.1.few_elements, c.loop-e-test.true) in h))
 
 pub loop-e-smaller : goal.loop-e-smaller
 loop-e-smaller c = omega (arith, c.loop-e-test.true)
@@ -45,7 +39,7 @@ loop-e-preserved c =
       omega arith,
       simp length-set t.invariant.1,
       worked_kept c.requires.evaluable.1 c.args.i t.e c.grade-g.result t.values l t.invariant.2,
-      worked_cell c.requires.evaluable.1 c.args.i t.e c.grade-g.result t.values l c.requires.i_bound.0 (room c)
+      worked_cell c.requires.evaluable.1 c.args.i t.e c.grade-g.result t.values l c.requires.i_bound.0 (let h : 64 * c.args.i + c.loop-e.e < length c.loop-e.values = omega (arith, c.loop-e.invariant.1, c.requires.i_bound.0, c.requires.evaluable.1.few_terms, c.requires.evaluable.1.few_elements, c.loop-e-test.true) in h)
           t.invariant.2 t.invariant.3 c.grade-g.ensures,
     )
 

@@ -11,7 +11,7 @@ use Rattle.grids.proofs.grade.Goals as goal
 
 pub name_grade-requires : goal.name_grade-requires
 name_grade-requires c =
-    name_below c.requires.evaluable.1 c.args.i c.requires.i_bound.0 c.args.e c.requires.i_bound.1 c.in-0.keys1
+    name_below c.requires.evaluable.1 c.args.i c.requires.i_bound.0 c.args.e c.requires.i_bound.1 c.in-0.is
 
 pub taken_at-requires : goal.taken_at-requires
 taken_at-requires c =
@@ -22,11 +22,15 @@ pub plain_grade-requires : goal.plain_grade-requires
 plain_grade-requires c =
     let w = c.requires.evaluable.1 in
     let i = c.requires.i_bound.0 in
-    let e = c.requires.i_bound.1 in record { i_bound = (omega (arith, w.few_terms), omega (arith, w.few_elements), w.right c.args.i i); by_index = λ j h. cell_le w c.args.i c.args.values.now (omega arith) c.requires.worked_to j h c.args.e e; fact = (
-          c.in_default-1.rest.1,
-          λ k. ⊎_elim (λ t. omega (arith, t.taken)) (λ u. omega (arith, u.1.left)) c.in_default.branch,
-          λ k. ⊎_elim (λ t. omega (arith, t.taken)) (λ u. omega (arith, u.1.left)) c.in_default.branch,
-        ) }
+    let e = c.requires.i_bound.1 in record {
+      i_bound = (omega (arith, w.few_terms), omega (arith, w.few_elements), w.right c.args.i i);
+      by_index = λ j h. cell_le w c.args.i c.args.values.now (omega arith) c.requires.worked_to j h c.args.e e;
+      fact = (
+        c.in_default-1.rest.1,
+        λ k. ⊎_elim (λ t. omega (arith, t.taken)) (λ u. omega (arith, u.1.left)) c.in_default.branch,
+        λ k. ⊎_elim (λ t. omega (arith, t.taken)) (λ u. omega (arith, u.1.left)) c.in_default.branch,
+      );
+    }
 
 pub returns-in-0 : goal.returns-in-0
 returns-in-0 c =
@@ -34,7 +38,7 @@ returns-in-0 c =
     let i = c.args.i in
     c.name_grade.ensures
     ∙ grade-kind (kind_at t i) (a_at t i) (b_at t i) c.args.logic c.args.n c.args.a c.args.names.now c.args.links.now
-    c.args.values.now i c.args.e 0 c.in-0.keys1
+    c.args.values.now i c.args.e 0 c.in-0.is
 
 pub returns-in-4 : goal.returns-in-4
 returns-in-4 c =

@@ -11,13 +11,13 @@ use Rattle.implied.proofs.Implying.{implied_before, refused, implied_number-is}
 use Rattle.implied.proofs.implied_rules.Goals as goal
 
 pub implied_in-requires : goal.implied_in-requires
-implied_in-requires c = opened_accepted _ _ (sym c.«open».ensures.0 ∙ c.s-1.given.1)
+implied_in-requires c = opened_accepted _ _ (sym c.in-Accepted.ensures.value)
 
 pub returns-in-Refused : goal.returns-in-Refused
 returns-in-Refused c =
     let w = numbered-and implied_number (implied_number-is _ _) (refused _ _ c.args.marks.now c.args.table.now _
     (implied_before c.args.b.now (length c.args.marks.now) (length c.args.table.now) _
-    (counted_declined _ _ _ (counted-refused _ _ (sym c.«open».ensures.0 ∙ c.n-1.given.1))))) in record { value = w.0; result_value = w.1.0; marks_after = w.1.1.0; table_after = w.1.1.1 }
+    (counted_declined _ _ _ (counted-refused _ _ (sym c.in-Refused.ensures.value))))) in record { value = w.0; result_value = w.1.0; marks_after = w.1.1.0; table_after = w.1.1.1 }
 
 pub returns-in-Accepted : goal.returns-in-Accepted
-returns-in-Accepted c = let w = numbered-and implied_number (implied_number-is _ _) c.implied_in.ensures in record { value = w.0; result_value = w.1.0; marks_after = w.1.1.0; table_after = w.1.1.1 }
+returns-in-Accepted c = let w = numbered-and implied_number (implied_number-is _ _) (c.implied_in.ensures.value, (c.implied_in.ensures.marks_after, c.implied_in.ensures.table_after)) in record { value = w.0; result_value = w.1.0; marks_after = w.1.1.0; table_after = w.1.1.1 }

@@ -18,12 +18,15 @@ loop-e-init c = (omega arith, omega arith, below_none _)
 
 pub put_row-requires : goal.put_row-requires
 put_row-requires c =
-    record { terms_right = c.requires.terms_right; terms_bound = (
+    record {
+      terms_right = c.requires.terms_right;
+      terms_bound = (
         c.requires.terms_bound.0,
         omega (arith, c.loop-e-test.true, c.loop-e.invariant.1, c.requires.terms_bound),
         c.find_homes-homes.ensures,
         omega (arith, c.number.ensures.1),
-      ) }
+      );
+    }
 
 pub loop-e-preserved : goal.loop-e-preserved
 loop-e-preserved c =

@@ -7,10 +7,13 @@ use Rattle.models.proofs.link_at.Goals as goal
 
 pub link_of_rows-requires : goal.link_of_rows-requires
 link_of_rows-requires c =
-    record { terms_right = c.requires.terms_right; terms_in_bounds = (
+    record {
+      terms_right = c.requires.terms_right;
+      terms_in_bounds = (
         rw c.row_at.ensures (omega (arith, length-row_at c.args.rows.now c.args.e (omega (arith, c.requires.terms_bound)), c.requires.terms_bound.0)),
         rw c.row_at-2.ensures (omega (arith, length-row_at c.args.rows.now c.args.f (omega (arith, c.requires.terms_bound)), c.requires.terms_bound.0)),
-      ) }
+      );
+    }
 
 pub returns : goal.returns
 returns c = rw (← c.row_at.ensures, ← c.row_at-2.ensures) c.link_of_rows.ensures

@@ -14,11 +14,14 @@ loop-c-init c = (omega arith, omega arith, lists-none c.args.marks.now c.args.ty
 
 pub list_next-found-requires : goal.list_next-found-requires
 list_next-found-requires c =
-    let l = c.loop-c in record { c_bound = (
+    let l = c.loop-c in record {
+      c_bound = (
         omega arith,
         omega arith,
         omega (arith, marked_mono c.args.marks.now (l.c + 1) c.args.count (omega (arith, c.loop-c-test.true)), l.invariant.1, c.requires.2),
-      ); lists = l.invariant.2 }
+      );
+      lists = l.invariant.2;
+    }
 
 pub loop-c-preserved : goal.loop-c-preserved
 loop-c-preserved c =

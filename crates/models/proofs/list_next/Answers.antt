@@ -7,29 +7,19 @@ use borrow.Author.Rules.{rules}
 use Rattle.models.proofs.Listing.{lists-more, lists-same, lists-few, lists-room}
 use Rattle.models.proofs.list_next.Goals as goal
 
-room : (c : tie.Else1) → c.before.before.args.found < length c.before.before.args.types.now
-room c =
-    let s = c.before.before in
-    lists-room s.args.marks.now s.args.c s.args.found s.args.types.now c.if1.false s.requires.1 s.requires.0.2
-
-few : (c : tie.Else1) → c.before.before.args.found < 16384
-few c =
-    let s = c.before.before in
-    omega (arith, lists-few s.args.marks.now s.args.c s.args.found s.args.types.now s.requires.1, s.requires.0.0)
-
 pub returns-then-marks-c-ne1 : goal.returns-then-marks-c-ne1
 returns-then-marks-c-ne1 c =
     lists-same c.args.marks.now c.args.c c.args.found c.args.types.now c.if-marks-c-ne1.true c.requires.lists
 
 pub offset_bounds-types-found : goal.offset_bounds-types-found
-offset_bounds-types-found c = record { fits = omega (arith, few c) }
+offset_bounds-types-found c = record { fits = omega (arith, (let h : c.args.found < 16384 = omega (arith, lists-few c.args.marks.now c.args.c c.args.found c.args.types.now c.requires.lists, c.requires.c_bound.0) in h)) }
 
 pub bounds-types-found : goal.bounds-types-found
-bounds-types-found c = room c
+bounds-types-found c = (let h : c.args.found < length c.args.types.now = lists-room c.args.marks.now c.args.c c.args.found c.args.types.now c.if-marks-c-ne1.false c.requires.lists c.requires.c_bound.2 in h)
 
 pub overflow_add-result : goal.overflow_add-result
-overflow_add-result c = record { fits = omega (arith, few c) }
+overflow_add-result c = record { fits = omega (arith, (let h : c.args.found < 16384 = omega (arith, lists-few c.args.marks.now c.args.c c.args.found c.args.types.now c.requires.lists, c.requires.c_bound.0) in h)) }
 
 pub returns : goal.returns
 returns c =
-    lists-more c.args.marks.now c.args.c c.args.found c.args.types.now (room c) c.if-marks-c-ne1.false c.requires.lists
+    lists-more c.args.marks.now c.args.c c.args.found c.args.types.now (let h : c.args.found < length c.args.types.now = lists-room c.args.marks.now c.args.c c.args.found c.args.types.now c.if-marks-c-ne1.false c.requires.lists c.requires.c_bound.2 in h) c.if-marks-c-ne1.false c.requires.lists

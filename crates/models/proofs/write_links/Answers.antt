@@ -16,42 +16,34 @@ use Rattle.models.proofs.Filling.{length_part, blocks_next, whole}
 use Rattle.models.proofs.Rows.{length-square}
 use Rattle.models.proofs.write_links.Goals as goal
 
-block_within : (c : tie.In-loop invariant-loop decreases-loop)
-    → c.before.loop.r * (c.before.before.before.before.before.args.n * c.before.before.before.before.before.args.n)
-    + c.before.before.before.before.before.args.n * c.before.before.before.before.before.args.n ≤ length c.before.loop.body
-block_within c =
-    let s = c.before.before.before.before.before in
-    omega (arith, block_fits (s.args.n * s.args.n) c.before.loop.r s.args.roles c.loop-test.true, c.before.loop.invariant.1, s.requires.1.4)
-
 pub loop-r-init : goal.loop-r-init
-loop-r-init c =
-    (
-      omega arith,
-      omega arith,
-      fill_none (square_by c.args.logic (terms_of c.args.terms.now) c.args.rows.now c.args.n) (c.args.n * c.args.n)
-          (length-square c.args.logic (terms_of c.args.terms.now) c.args.rows.now c.args.n) c.args.body.now,
-    )
+loop-r-init c = (
+  omega arith,
+  omega arith,
+  fill_none (square_by c.args.logic (terms_of c.args.terms.now) c.args.rows.now c.args.n) (c.args.n * c.args.n)
+      (length-square c.args.logic (terms_of c.args.terms.now) c.args.rows.now c.args.n) c.args.body.now,
+)
 
 pub overflow_mul-start : goal.overflow_mul-start
 overflow_mul-start c = omega (arith, mul-le-mul c.requires.terms_bound.2 c.requires.terms_bound.2)
 
 pub overflow_mul-start-in-loop-r : goal.overflow_mul-start-in-loop-r
-overflow_mul-start-in-loop-r c = omega (arith, block_within c)
+overflow_mul-start-in-loop-r c = omega (arith, (let h : c.loop-r.r * (c.args.n * c.args.n) + c.args.n * c.args.n ≤ length c.loop-r.body = omega (arith, block_fits (c.args.n * c.args.n) c.loop-r.r c.args.roles c.loop-r-test.true, c.loop-r.invariant.1, c.requires.terms_bound.4) in h))
 
 pub overflow_mul-end : goal.overflow_mul-end
 overflow_mul-end c = omega (arith, mul-le-mul c.requires.terms_bound.2 c.requires.terms_bound.2)
 
 pub overflow_add-end : goal.overflow_add-end
-overflow_add-end c = omega (arith, block_within c)
+overflow_add-end c = omega (arith, (let h : c.loop-r.r * (c.args.n * c.args.n) + c.args.n * c.args.n ≤ length c.loop-r.body = omega (arith, block_fits (c.args.n * c.args.n) c.loop-r.r c.args.roles c.loop-r-test.true, c.loop-r.invariant.1, c.requires.terms_bound.4) in h))
 
 pub slice_bounds-write_square-count : goal.slice_bounds-write_square-count
-slice_bounds-write_square-count c = omega (arith, block_within c)
+slice_bounds-write_square-count c = omega (arith, (let h : c.loop-r.r * (c.args.n * c.args.n) + c.args.n * c.args.n ≤ length c.loop-r.body = omega (arith, block_fits (c.args.n * c.args.n) c.loop-r.r c.args.roles c.loop-r-test.true, c.loop-r.invariant.1, c.requires.terms_bound.4) in h))
 
 pub write_square-requires : goal.write_square-requires
 write_square-requires c =
     let t = c.loop-r in
     let start = t.r * (c.args.n * c.args.n) in
-    let part = length_part t.body start (start + c.args.n * c.args.n) (block_within c) in
+    let part = length_part t.body start (start + c.args.n * c.args.n) (let h : c.loop-r.r * (c.args.n * c.args.n) + c.args.n * c.args.n ≤ length c.loop-r.body = omega (arith, block_fits (c.args.n * c.args.n) c.loop-r.r c.args.roles c.loop-r-test.true, c.loop-r.invariant.1, c.requires.terms_bound.4) in h) in
     record { terms_right = c.requires.terms_right; terms_bound = (c.requires.terms_bound.0, c.requires.terms_bound.2, c.requires.terms_bound.3, part ∙ omega arith) }
 
 pub loop-r-preserved : goal.loop-r-preserved

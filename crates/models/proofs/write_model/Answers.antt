@@ -10,11 +10,15 @@ use Rattle.models.proofs.write_model.Goals as goal
 
 pub write_sheet-requires : goal.write_sheet-requires
 write_sheet-requires c =
-    let long = c.fill_rows.auto.rows in record { terms_right = c.requires.terms_right; terms_bound = (
-          c.requires.types_len_bound.1,
-          le_of_eq (sym (long ∙ length-replicate {A = ℕ} 4096 0)),
-          record { elements_le = c.requires.types_len_bound.0; names_le = c.requires.types_len_bound.2; roles_le = c.requires.types_len_bound.3; individuals_le = c.requires.types_len_bound.4 },
-        ); elements_value = (refl, refl, c.requires.seats_in_bounds) }
+    let long = c.fill_rows.auto.rows in record {
+      terms_right = c.requires.terms_right;
+      terms_bound = (
+        c.requires.types_len_bound.1,
+        le_of_eq (sym (long ∙ length-replicate {A = ℕ} 4096 0)),
+        record { elements_le = c.requires.types_len_bound.0; names_le = c.requires.types_len_bound.2; roles_le = c.requires.types_len_bound.3; individuals_le = c.requires.types_len_bound.4 },
+      );
+      elements_value = (refl, refl, c.requires.seats_in_bounds);
+    }
 
 pub returns : goal.returns
 returns c =

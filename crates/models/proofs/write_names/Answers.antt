@@ -16,29 +16,22 @@ use Rattle.grades.proofs.Rows.{length-row_at}
 use Rattle.models.proofs.Rows.{named_row, length-name_row}
 use Rattle.models.proofs.write_names.Goals as goal
 
-block_within : (c : tie.In-loop invariant-loop decreases-loop)
-    → c.before.loop.e * c.before.before.before.before.before.args.names + c.before.before.before.before.before.args.names ≤ length c.before.loop.body
-block_within c =
-    let s = c.before.before.before.before.before in
-    omega (arith, block_fits s.args.names c.before.loop.e s.args.n c.loop-test.true, c.before.loop.invariant.1, s.requires.1.3)
-
 pub loop-e-init : goal.loop-e-init
-loop-e-init c =
-    (
-      omega arith,
-      omega arith,
-      fill_none (named_row (terms_of c.args.terms.now) c.args.rows.now c.args.names) c.args.names
-          (length-name_row (terms_of c.args.terms.now) c.args.rows.now c.args.names) c.args.body.now,
-    )
+loop-e-init c = (
+  omega arith,
+  omega arith,
+  fill_none (named_row (terms_of c.args.terms.now) c.args.rows.now c.args.names) c.args.names
+      (length-name_row (terms_of c.args.terms.now) c.args.rows.now c.args.names) c.args.body.now,
+)
 
 pub overflow_mul-start : goal.overflow_mul-start
-overflow_mul-start c = omega (arith, block_within c)
+overflow_mul-start c = omega (arith, (let h : c.loop-e.e * c.args.names + c.args.names ≤ length c.loop-e.body = omega (arith, block_fits c.args.names c.loop-e.e c.args.n c.loop-e-test.true, c.loop-e.invariant.1, c.requires.terms_bound.3) in h))
 
 pub overflow_add-end : goal.overflow_add-end
-overflow_add-end c = omega (arith, block_within c)
+overflow_add-end c = omega (arith, (let h : c.loop-e.e * c.args.names + c.args.names ≤ length c.loop-e.body = omega (arith, block_fits c.args.names c.loop-e.e c.args.n c.loop-e-test.true, c.loop-e.invariant.1, c.requires.terms_bound.3) in h))
 
 pub slice_bounds-write_name_row-count : goal.slice_bounds-write_name_row-count
-slice_bounds-write_name_row-count c = omega (arith, block_within c)
+slice_bounds-write_name_row-count c = omega (arith, (let h : c.loop-e.e * c.args.names + c.args.names ≤ length c.loop-e.body = omega (arith, block_fits c.args.names c.loop-e.e c.args.n c.loop-e-test.true, c.loop-e.invariant.1, c.requires.terms_bound.3) in h))
 
 pub write_name_row-requires : goal.write_name_row-requires
 write_name_row-requires c =
@@ -57,7 +50,7 @@ loop-e-preserved c =
           (c.write_name_row.ensures
           ∙ ap₂ (λ (row : List ℕ) (w : ℕ). table (λ a. name_in (terms_of c.args.terms.now) a row) w)
           c.row_at.ensures
-          (length_part t.body (t.e * c.args.names) (t.e * c.args.names + c.args.names) (block_within c) ∙ omega arith)),
+          (length_part t.body (t.e * c.args.names) (t.e * c.args.names + c.args.names) (let h : c.loop-e.e * c.args.names + c.args.names ≤ length c.loop-e.body = omega (arith, block_fits c.args.names c.loop-e.e c.args.n c.loop-e-test.true, c.loop-e.invariant.1, c.requires.terms_bound.3) in h) ∙ omega arith)),
     )
 
 pub shape_of-body : goal.shape_of-body

@@ -12,24 +12,30 @@ pub write_names-requires : goal.write_names-requires
 write_names-requires c =
     let to = c.links_at-links in
     let head = c.write_head.new.head in
-    let q : to.result - 12 ≡ c.args.p.elements * c.args.p.names = omega (arith, to.ensures) in record { terms_right = c.requires.terms_right; terms_bound = (
+    let q : to.result - 12 ≡ c.args.p.elements * c.args.p.names = omega (arith, to.ensures) in record {
+      terms_right = c.requires.terms_right;
+      terms_bound = (
         c.requires.terms_bound.0,
         c.requires.terms_bound.2.elements_le,
         c.requires.terms_bound.1,
         length_part (pasted c.args.sheet.now 0 12 head) 12 to.result (part-write-names-end c) ∙ q,
-      ) }
+      );
+    }
 
 pub write_links-requires : goal.write_links-requires
 write_links-requires c =
     let from = c.links_at-links in
     let to = c.individuals_at-individuals in
-    let q : to.result - from.result ≡ c.args.p.roles * (c.args.p.elements * c.args.p.elements) = omega (arith, from.ensures, to.ensures) in record { terms_right = c.requires.terms_right; terms_bound = (
+    let q : to.result - from.result ≡ c.args.p.roles * (c.args.p.elements * c.args.p.elements) = omega (arith, from.ensures, to.ensures) in record {
+      terms_right = c.requires.terms_right;
+      terms_bound = (
         c.requires.terms_bound.0,
         c.requires.terms_bound.2.roles_le,
         c.requires.terms_bound.2.elements_le,
         c.requires.terms_bound.1,
         length_part _ from.result to.result (part-write-links-end c) ∙ q,
-      ) }
+      );
+    }
 
 pub returns : goal.returns
 returns c =

@@ -15,34 +15,27 @@ use Rattle.models.proofs.Filling.{length_part, blocks_next, whole}
 use Rattle.models.proofs.Rows.{link_row, length-link_row}
 use Rattle.models.proofs.write_square.Goals as goal
 
-block_within : (c : tie.In-loop invariant-loop decreases-loop)
-    → c.before.loop.e * c.before.before.before.before.before.args.n + c.before.before.before.before.before.args.n ≤ length c.before.loop.body
-block_within c =
-    let s = c.before.before.before.before.before in
-    omega (arith, block_fits s.args.n c.before.loop.e s.args.n c.loop-test.true, c.before.loop.invariant.1, s.requires.1.3)
-
 pub loop-e-init : goal.loop-e-init
-loop-e-init c =
-    (
-      omega arith,
-      omega arith,
-      fill_none (link_row c.args.logic (terms_of c.args.terms.now) c.args.rows.now c.args.n c.args.role) c.args.n
-          (length-link_row c.args.logic (terms_of c.args.terms.now) c.args.rows.now c.args.n c.args.role) c.args.body.now,
-    )
+loop-e-init c = (
+  omega arith,
+  omega arith,
+  fill_none (link_row c.args.logic (terms_of c.args.terms.now) c.args.rows.now c.args.n c.args.role) c.args.n
+      (length-link_row c.args.logic (terms_of c.args.terms.now) c.args.rows.now c.args.n c.args.role) c.args.body.now,
+)
 
 pub overflow_mul-start : goal.overflow_mul-start
-overflow_mul-start c = omega (arith, block_within c)
+overflow_mul-start c = omega (arith, (let h : c.loop-e.e * c.args.n + c.args.n ≤ length c.loop-e.body = omega (arith, block_fits c.args.n c.loop-e.e c.args.n c.loop-e-test.true, c.loop-e.invariant.1, c.requires.terms_bound.3) in h))
 
 pub overflow_add-end : goal.overflow_add-end
-overflow_add-end c = omega (arith, block_within c)
+overflow_add-end c = omega (arith, (let h : c.loop-e.e * c.args.n + c.args.n ≤ length c.loop-e.body = omega (arith, block_fits c.args.n c.loop-e.e c.args.n c.loop-e-test.true, c.loop-e.invariant.1, c.requires.terms_bound.3) in h))
 
 pub slice_bounds-write_link_row-count : goal.slice_bounds-write_link_row-count
-slice_bounds-write_link_row-count c = omega (arith, block_within c)
+slice_bounds-write_link_row-count c = omega (arith, (let h : c.loop-e.e * c.args.n + c.args.n ≤ length c.loop-e.body = omega (arith, block_fits c.args.n c.loop-e.e c.args.n c.loop-e-test.true, c.loop-e.invariant.1, c.requires.terms_bound.3) in h))
 
 pub write_link_row-requires : goal.write_link_row-requires
 write_link_row-requires c =
     let t = c.loop-e in
-    let part = length_part t.body (t.e * c.args.n) (t.e * c.args.n + c.args.n) (block_within c) in
+    let part = length_part t.body (t.e * c.args.n) (t.e * c.args.n + c.args.n) (let h : c.loop-e.e * c.args.n + c.args.n ≤ length c.loop-e.body = omega (arith, block_fits c.args.n c.loop-e.e c.args.n c.loop-e-test.true, c.loop-e.invariant.1, c.requires.terms_bound.3) in h) in
     record { terms_right = c.requires.terms_right; terms_bound = (c.requires.terms_bound.0, omega (arith, c.loop-e-test.true), c.requires.terms_bound.2, omega (arith, c.requires.terms_bound.1)) }
 
 pub loop-e-preserved : goal.loop-e-preserved
@@ -55,7 +48,7 @@ loop-e-preserved c =
           c.args.body.now _ t.invariant.2
           (c.write_link_row.ensures
           ∙ ap (table (λ f. link_in c.args.logic (terms_of c.args.terms.now) c.args.rows.now c.args.role t.e f))
-          (length_part t.body (t.e * c.args.n) (t.e * c.args.n + c.args.n) (block_within c) ∙ omega arith)),
+          (length_part t.body (t.e * c.args.n) (t.e * c.args.n + c.args.n) (let h : c.loop-e.e * c.args.n + c.args.n ≤ length c.loop-e.body = omega (arith, block_fits c.args.n c.loop-e.e c.args.n c.loop-e-test.true, c.loop-e.invariant.1, c.requires.terms_bound.3) in h) ∙ omega arith)),
     )
 
 pub shape_of-body : goal.shape_of-body

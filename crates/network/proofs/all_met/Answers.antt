@@ -9,7 +9,6 @@ use Rattle.chain.specs.Decisions.{Tells}
 use Rattle.network.specs.declared.Constraint.{Constraint}
 use Rattle.network.specs.Constraints.{constraint_count, constraint_at, Met}
 use Rattle.chain.proofs.Decisions.{tells_yes, tells_no, told_yes, told_no}
-use Rattle.std.proofs.lemmas.Bool.{not-false, not-true}
 use Rattle.network.proofs.all_met.Goals as goal
 
 pub loop-y-init : goal.loop-y-init
@@ -23,12 +22,12 @@ met-requires c =
 pub returns-then-not-met : goal.returns-then-not-met
 returns-then-not-met c =
     let t = subst (λ (k : Constraint). Tells c.met.result (Met c.args.logic k c.args.source.now c.args.target.now)) c.constraint_at.ensures c.met.ensures in
-    tells_no (λ h. told_no _ t (not-true _ c.if-not-met.true) (h c.loop-y.y (omega arith)))
+    tells_no (λ h. told_no _ t c.if-not-met.true (h c.loop-y.y (omega arith)))
 
 pub loop-y-preserved : goal.loop-y-preserved
 loop-y-preserved c =
     let t = subst (λ (k : Constraint). Tells c.met.result (Met c.args.logic k c.args.source.now c.args.target.now)) c.constraint_at.ensures c.met.ensures in
-    (omega arith, below_more _ c.loop-y.y c.loop-y.invariant.1 (told_yes _ t (not-false _ c.if-not-met.false)))
+    (omega arith, below_more _ c.loop-y.y c.loop-y.invariant.1 (told_yes _ t c.if-not-met.false))
 
 pub returns : goal.returns
 returns c = tells_yes (λ z l. c.loop-y.invariant.1 z (omega arith))

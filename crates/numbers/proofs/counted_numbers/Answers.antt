@@ -6,7 +6,7 @@ use Rattle.numbers.specs.Numbers.{counted_numbers}
 use Rattle.numbers.proofs.counted_numbers.Goals as goal
 
 pub returns-in-Refused : goal.returns-in-Refused
-returns-in-Refused c = ap counted_numbers (sym c.a-1.given.1)
+returns-in-Refused c = ap counted_numbers (sym c.in-Refused.is)
 
 pub returns-in-Candidates : goal.returns-in-Candidates
-returns-in-Candidates c = ap counted_numbers (sym c.a-in-Candidates-1.given.1)
+returns-in-Candidates c = ap counted_numbers (sym c.in-Candidates.is)

@@ -6,7 +6,7 @@ use Rattle.numbers.specs.Numbers.{decided_numbers}
 use Rattle.numbers.proofs.decided_numbers.Goals as goal
 
 pub returns-in-Refused : goal.returns-in-Refused
-returns-in-Refused c = ap decided_numbers (sym c.a-1.given.1)
+returns-in-Refused c = ap decided_numbers (sym c.in-Refused.is)
 
 pub returns-in-Decided : goal.returns-in-Decided
-returns-in-Decided c = ap decided_numbers (sym c.a-in-Decided-1.given.1)
+returns-in-Decided c = ap decided_numbers (sym c.in-Decided.is)

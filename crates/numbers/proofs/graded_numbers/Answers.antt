@@ -6,7 +6,7 @@ use Rattle.numbers.specs.Numbers.{graded_numbers}
 use Rattle.numbers.proofs.graded_numbers.Goals as goal
 
 pub returns-in-Refused : goal.returns-in-Refused
-returns-in-Refused c = ap graded_numbers (sym c.a-1.given.1)
+returns-in-Refused c = ap graded_numbers (sym c.in-Refused.is)
 
 pub returns-in-Grade : goal.returns-in-Grade
-returns-in-Grade c = ap graded_numbers (sym c.a-in-Grade-1.given.1)
+returns-in-Grade c = ap graded_numbers (sym c.in-Grade.is)

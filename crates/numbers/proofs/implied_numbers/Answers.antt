@@ -6,7 +6,7 @@ use Rattle.numbers.specs.Numbers.{implied_numbers}
 use Rattle.numbers.proofs.implied_numbers.Goals as goal
 
 pub returns-in-Refused : goal.returns-in-Refused
-returns-in-Refused c = ap implied_numbers (sym c.a-1.given.1)
+returns-in-Refused c = ap implied_numbers (sym c.in-Refused.is)
 
 pub returns-in-Survivors : goal.returns-in-Survivors
-returns-in-Survivors c = ap implied_numbers (sym c.a-in-Survivors-1.given.1)
+returns-in-Survivors c = ap implied_numbers (sym c.in-Survivors.is)

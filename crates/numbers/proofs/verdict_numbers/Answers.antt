@@ -6,16 +6,16 @@ use Rattle.numbers.specs.Numbers.{verdict_numbers}
 use Rattle.numbers.proofs.verdict_numbers.Goals as goal
 
 pub returns-in-Meets : goal.returns-in-Meets
-returns-in-Meets c = ap verdict_numbers (sym c.enum_told-1.given.1)
+returns-in-Meets c = ap verdict_numbers (sym c.in-Meets.is)
 
 pub returns-in-BreaksRule : goal.returns-in-BreaksRule
-returns-in-BreaksRule c = ap verdict_numbers (sym c.v-1.given.1)
+returns-in-BreaksRule c = ap verdict_numbers (sym c.in-BreaksRule.is)
 
 pub returns-in-BreaksPair : goal.returns-in-BreaksPair
-returns-in-BreaksPair c = ap verdict_numbers (sym c.v-in-BreaksPair-1.given.1)
+returns-in-BreaksPair c = ap verdict_numbers (sym c.in-BreaksPair.is)
 
 pub returns-in-BreaksMembership : goal.returns-in-BreaksMembership
-returns-in-BreaksMembership c = ap verdict_numbers (sym c.v-in-BreaksMembership-1.given.1)
+returns-in-BreaksMembership c = ap verdict_numbers (sym c.in-BreaksMembership.is)
 
 pub returns-in-BreaksLink : goal.returns-in-BreaksLink
-returns-in-BreaksLink c = ap verdict_numbers (sym c.v-in-BreaksLink-1.given.1)
+returns-in-BreaksLink c = ap verdict_numbers (sym c.in-BreaksLink.is)

@@ -6,7 +6,7 @@ use Rattle.numbers.specs.Numbers.{worked_numbers}
 use Rattle.numbers.proofs.worked_numbers.Goals as goal
 
 pub returns-in-Refused : goal.returns-in-Refused
-returns-in-Refused c = ap worked_numbers (sym c.a-1.given.1)
+returns-in-Refused c = ap worked_numbers (sym c.in-Refused.is)
 
 pub returns-in-Says : goal.returns-in-Says
-returns-in-Says c = c.verdict_numbers.ensures ∙ ap worked_numbers (sym c.a-in-Says-1.given.1)
+returns-in-Says c = c.verdict_numbers.ensures ∙ ap worked_numbers (sym c.in-Says.is)

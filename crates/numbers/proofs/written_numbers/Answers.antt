@@ -6,7 +6,7 @@ use Rattle.numbers.specs.Numbers.{written_numbers}
 use Rattle.numbers.proofs.written_numbers.Goals as goal
 
 pub returns-in-Refused : goal.returns-in-Refused
-returns-in-Refused c = ap written_numbers (sym c.a-1.given.1)
+returns-in-Refused c = ap written_numbers (sym c.in-Refused.is)
 
 pub returns-in-Sheet : goal.returns-in-Sheet
-returns-in-Sheet c = ap written_numbers (sym c.a-in-Sheet-1.given.1)
+returns-in-Sheet c = ap written_numbers (sym c.in-Sheet.is)

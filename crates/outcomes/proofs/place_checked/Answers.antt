@@ -10,7 +10,7 @@ use Rattle.outcomes.proofs.place_checked.Goals as goal
 pub equip-m-requires : goal.equip-m-requires
 equip-m-requires c =
     let logic-in = c.logic_in-logic in
-    record { right = c.requires.right; s_value = (logic-in.ensures.0, logic-in.ensures.1.0, logic-in.ensures.1.1); b_bound = (c.requires.b_bound, omega arith) }
+    record { right = c.requires.right; s_value = (logic-in.ensures.s_value, logic-in.ensures.le_steps.0, logic-in.ensures.le_steps.1); b_bound = (c.requires.b_bound, omega arith) }
 
 pub overflow_mul-slots : goal.overflow_mul-slots
 overflow_mul-slots c = omega (arith, c.equip-m.ensures.0)

@@ -8,4 +8,4 @@ use Rattle.partition.proofs.add.Goals as goal
 pub returns : goal.returns
 returns c =
     let named = names_more c.args.index.now c.args.key c.args.count c.requires.m_in_bounds.2 c.requires.names in
-    let w = (refl, (named, c.write_row.ensures)) in record { value = w.0; names_2 = w.1.0; row = w.1.1.0; kept_rows = w.1.1.1 }
+    record { value = refl; names_2 = named; row = c.write_row.ensures.row; kept_rows = c.write_row.ensures.kept_rows }

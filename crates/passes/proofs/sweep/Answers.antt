@@ -14,8 +14,12 @@ judge_all-requires c =
     let a = c.args in
     let p = c.requires.sources_in_bounds in
     let present = a.present.now in
-    let e = sym p.4 in record { ready = ready_sized a.logic a.sources a.targets (length present) a.slots.now a.own.now a.child.now e c.requires.ready; present_len_bound = (omega (arith, p.2), p.0, p.1, p.3); remembers = remembers_sized a.logic a.sources a.targets (length present) a.slots.now a.own.now a.child.now e present a.memory.now
-            c.requires.state.remembers }
+    let e = sym p.4 in record {
+      ready = ready_sized a.logic a.sources a.targets (length present) a.slots.now a.own.now a.child.now e c.requires.ready;
+      present_len_bound = (omega (arith, p.2), p.0, p.1, p.3);
+      remembers = remembers_sized a.logic a.sources a.targets (length present) a.slots.now a.own.now a.child.now e present a.memory.now
+          c.requires.state.remembers;
+    }
 
 pub pass_all-requires : goal.pass_all-requires
 pass_all-requires c =
@@ -42,5 +46,8 @@ returns c =
     let judged = judged_sized a.logic a.sources (length present) a.targets a.slots.now a.own.now a.child.now p.4 present 0 a.sources
     alive kept J.ensures.judged in
     let remembered = remembers_sized a.logic a.sources (length present) a.targets a.slots.now a.own.now a.child.now p.4 present memory'
-    J.ensures.remembers_2 in record { state_2 = swept_state K marks memory alive present a.left S a.sources sources kept after D.result judged D.ensures.dropped memory' later remembered
-          D.ensures.value D.ensures.noted; swept = swept K marks memory alive present a.left S a.sources sources kept after D.result judged D.ensures.dropped }
+    J.ensures.remembers_2 in record {
+      state_2 = swept_state K marks memory alive present a.left S a.sources sources kept after D.result judged D.ensures.dropped memory' later remembered
+          D.ensures.value D.ensures.noted;
+      swept = swept K marks memory alive present a.left S a.sources sources kept after D.result judged D.ensures.dropped;
+    }

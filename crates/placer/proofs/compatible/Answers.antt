@@ -5,7 +5,6 @@ use native.Mathlib.Omega.{arith}
 use borrow.Author.Rules.{rules}
 use Rattle.levels.proofs.Rows.{length-row_at}
 use Rattle.chain.proofs.Decisions.{tells_no, tells_then, told_yes, told_no}
-use Rattle.std.proofs.lemmas.Bool.{not-false, not-true}
 use Rattle.placer.proofs.compatible.Goals as goal
 
 pub all_met-requires : goal.all_met-requires
@@ -19,7 +18,7 @@ all_met-requires c =
 
 pub returns-then-not-all_met : goal.returns-then-not-all_met
 returns-then-not-all_met c =
-    tells_no (λ h. told_no _ c.all_met.ensures (not-true _ c.if-not-all_met.true)
+    tells_no (λ h. told_no _ c.all_met.ensures c.if-not-all_met.true
     (rw (c.between.ensures, c.row_at-first.ensures, c.row_at-second.ensures) h.0))
 
 pub all_met-requires-2 : goal.all_met-requires-2
@@ -36,5 +35,5 @@ returns c =
     let first = c.row_at-first.ensures in
     let second = c.row_at-second.ensures in
     tells_then _
-    (rw (c.between.ensures, first, second) at (told_yes _ c.all_met.ensures (not-false _ c.if-not-all_met.false)))
+    (rw (c.between.ensures, first, second) at (told_yes _ c.all_met.ensures c.if-not-all_met.false))
     (rw (c.between-2.ensures, first, second) at c.all_met-2.ensures)

@@ -8,7 +8,6 @@ use borrow.Author.Rules.{rules}
 use Rattle.levels.specs.Rows.{row_at}
 use Rattle.domains.specs.Consistent.{Fits}
 use Rattle.chain.proofs.Decisions.{tells_yes, tells_no, told_yes, told_no}
-use Rattle.std.proofs.lemmas.Bool.{not-false, not-true}
 use Rattle.placer.proofs.fits_seated.Goals as goal
 
 pub loop-i-init : goal.loop-i-init
@@ -25,13 +24,13 @@ compatible-requires c =
 
 pub returns-then-not-compatible : goal.returns-then-not-compatible
 returns-then-not-compatible c =
-    tells_no (λ h. told_no _ c.compatible.ensures (not-true _ c.if-not-compatible.true)
+    tells_no (λ h. told_no _ c.compatible.ensures c.if-not-compatible.true
     (h c.loop-i.i c.loop-i-test.true))
 
 pub loop-i-preserved : goal.loop-i-preserved
 loop-i-preserved c =
     let l = c.loop-i in
-    (omega (arith, c.loop-i-test.true), below_more _ l.i l.invariant.1 (told_yes _ c.compatible.ensures (not-false _ c.if-not-compatible.false)))
+    (omega (arith, c.loop-i-test.true), below_more _ l.i l.invariant.1 (told_yes _ c.compatible.ensures c.if-not-compatible.false))
 
 pub returns : goal.returns
 returns c = tells_yes (λ x l. c.loop-i.invariant.1 x (omega arith))

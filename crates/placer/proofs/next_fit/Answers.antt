@@ -35,13 +35,16 @@ loop-c-preserved-then-gap-gt0 c =
 
 pub fits_seated-requires : goal.fits_seated-requires
 fits_seated-requires c =
-    let p = c.requires.setting.problem in record { wired = p.wired; in_bounds = (
+    let p = c.requires.setting.problem in record {
+      wired = p.wired;
+      in_bounds = (
         p.rows_long,
         omega (arith, c.requires.k_lt_individuals.0, p.individuals_few),
         c.requires.k_lt_individuals.1,
         omega (arith, c.loop-c-test.true, p.candidates_few),
         c.requires.k_lt_individuals.2,
-      ) }
+      );
+    }
 
 pub returns-then-fits_seated : goal.returns-then-fits_seated
 returns-then-fits_seated c =

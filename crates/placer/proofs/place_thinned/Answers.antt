@@ -21,10 +21,13 @@ returns-then-place_at_once c =
 pub place_pruned-requires : goal.place_pruned-requires
 place_pruned-requires c =
     let t = c.thin in
-    let g = c.note_all_gaps in record { setting = record { problem = c.requires.problem; table_long = omega (arith, g.auto.table, t.auto.table, c.requires.in_bounds.0); gaps = g.ensures.gaps }; individuals_in_bounds = (
+    let g = c.note_all_gaps in record {
+      setting = record { problem = c.requires.problem; table_long = omega (arith, g.auto.table, t.auto.table, c.requires.in_bounds.0); gaps = g.ensures.gaps };
+      individuals_in_bounds = (
         omega (arith, c.place_at_once.auto.seats, c.requires.in_bounds.1),
         λ j c h l e. c.requires.in_bounds.2 j c h l (t.ensures.fewer _ ((g.ensures.same_allowed _).0 e)),
-      ) }
+      );
+    }
 
 pub returns : goal.returns
 returns c =

@@ -8,6 +8,7 @@ use borrow.Author.Rules.{rules}
 use Rattle.sections.specs.Terms.{term_count, terms_of}
 use Rattle.places.proofs.Places.{open_before, none_open, open_more, open_same, all_open}
 use Rattle.places.proofs.count_places.Goals as goal
+use Rattle.places.proofs.count_places.Goals.{then-opens, else-opens}
 
 pub loop-i-init : goal.loop-i-init
 loop-i-init c = (omega arith, sym (none_open (terms_of c.args.terms.now)), omega arith)
@@ -25,10 +26,10 @@ loop-i-preserved c =
     let s = c.args.terms.now in
     let l = c.loop-i in
     let told = c.opens.ensures in
-    ⊎_elim
-    (λ w. (omega arith, w.1 ∙ ap (λ (n : ℕ). n + 1) l.invariant.1 ∙ open_more (terms_of s) l.i (told.0 w.0.taken), omega arith))
-    (λ w. (omega arith, w.1 ∙ l.invariant.1 ∙ open_same (terms_of s) l.i (told.1 w.0.left), omega arith))
-    c.if-opens.branch
+    elim c.if-opens.branch [
+      | then-opens w ↦ (omega arith, w.found-is ∙ ap (λ (n : ℕ). n + 1) l.invariant.1 ∙ open_more (terms_of s) l.i (told.0 w.if-opens.true), omega arith)
+      | else-opens w ↦ (omega arith, w.found-is ∙ l.invariant.1 ∙ open_same (terms_of s) l.i (told.1 w.if-opens.false), omega arith)
+    ]
 
 pub returns : goal.returns
 returns c =

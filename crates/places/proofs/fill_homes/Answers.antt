@@ -36,4 +36,4 @@ loop-i-preserved c =
     )
 
 pub returns : goal.returns
-returns c = c.loop-i.invariant.4 j (omega arith)
+returns c j l = c.loop-i.invariant.4 j (omega arith)

@@ -9,11 +9,14 @@ use Rattle.printout.proofs.outcome_line.Goals as goal
 
 pub returns : goal.returns
 unfolding outcome_line labelled newline bytes
-returns c = record { added = added_then c.put_labelled-count.ensures.added
+returns c = record {
+  added = added_then c.put_labelled-count.ensures.added
       (added_then c.put_labelled-last.ensures.added
-      c.put_newline.ensures); upper_bound = omega (
+      c.put_newline.ensures);
+  upper_bound = omega (
     arith,
     c.put_labelled-count.ensures.upper_bound,
     c.put_labelled-last.ensures.upper_bound,
     c.put_newline.ensures.ends,
-  ) }
+  );
+}

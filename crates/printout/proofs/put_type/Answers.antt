@@ -9,6 +9,9 @@ use Rattle.printout.proofs.put_type.Goals as goal
 
 pub returns : goal.returns
 unfolding type_line labelled newline bytes
-returns c = record { added = added_then
+returns c = record {
+  added = added_then
       c.put_labelled-word.ensures.added (added_then c.put_text-grades.ensures
-      (added_then c.put_grades-last.ensures.added c.put_newline.ensures)); upper_bound = omega (arith, c.put_labelled-word.ensures.upper_bound, c.put_text-grades.ensures.ends, c.put_grades-last.ensures.value, c.put_newline.ensures.ends) }
+      (added_then c.put_grades-last.ensures.added c.put_newline.ensures));
+  upper_bound = omega (arith, c.put_labelled-word.ensures.upper_bound, c.put_text-grades.ensures.ends, c.put_grades-last.ensures.value, c.put_newline.ensures.ends);
+}

@@ -20,8 +20,11 @@ slice_bounds-put_type-end c = sym (length-take-le _ _ (omega arith))
 pub put_type-requires : goal.put_type-requires
 put_type-requires c =
     let terms = c.args.terms.now in
-    let w = rw (row_front c.args.logic terms c.args.c _ _ c.fill_row.ensures)
-    ((row_digits c.args.logic terms c.args.c c.requires.terms_right.0 (omega arith), omega (arith, row-length c.args.logic terms c.args.c)), omega arith) in record { by_index = w.0; at_in_bounds = w.1 }
+    record {
+      by_index = rw (row_front c.args.logic terms c.args.c _ _ c.fill_row.ensures)
+          (row_digits c.args.logic terms c.args.c c.requires.terms_right.0 (omega arith), omega (arith, row-length c.args.logic terms c.args.c));
+      at_in_bounds = omega arith;
+    }
 
 pub returns : goal.returns
 returns c =

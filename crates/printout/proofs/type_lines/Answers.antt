@@ -33,9 +33,9 @@ loop-i-preserved c =
     let loop = c.loop-i in
     let put-marked = c.put_marked-end in (
       omega arith,
-      put-marked.auto.0 ∙ loop.invariant.1,
-      omega (arith, put-marked.ensures.1),
-      added_same (types_more (rows c.args.terms.now c.args.logic) (marked? c.args.marks.now) c.args.first loop.i) (added_then loop.invariant.3 put-marked.ensures.0),
+      put-marked.auto.out ∙ loop.invariant.1,
+      omega (arith, put-marked.ensures.upper_bound),
+      added_same (types_more (rows c.args.terms.now c.args.logic) (marked? c.args.marks.now) c.args.first loop.i) (added_then loop.invariant.3 put-marked.ensures.added),
     )
 
 pub returns : goal.returns

@@ -16,35 +16,35 @@ loop-next-init c = (refl, omega arith, below_none _)
 pub loop-next-preserved-then-i-j : goal.loop-next-preserved-then-i-j
 loop-next-preserved-then-i-j c =
     let a = c.args in
-    let p = s.requires in
+    let p = c.requires in
     let l = c.loop-next in
     (l.invariant.0, omega (arith, c.loop-next-test.true), read_self a.net.now a.ends.now a.j l.next l.seen c.if-i-j.true l.invariant.2)
 
 pub between-requires : goal.between-requires
 between-requires c =
     let a = c.args in
-    let p = s.requires in
+    let p = c.requires in
     let l = c.loop-next in
     (p.j_bound.0, c.loop-next-test.true, p.wired.long, p.wired.laid)
 
 pub note_list-requires : goal.note_list-requires
 note_list-requires c =
     let a = c.args in
-    let p = s.requires in
+    let p = c.requires in
     let l = c.loop-next in
     (rw c.between.ensures (c.requires.wired.right (8 * a.j + l.next) (omega (arith, p.j_bound.0, c.loop-next-test.true))), omega (arith, l.invariant.0, p.j_bound.1), omega arith)
 
 pub between-requires-in-loop-next : goal.between-requires-in-loop-next
 between-requires-in-loop-next c =
     let a = c.args in
-    let p = s.requires in
+    let p = c.requires in
     let l = c.loop-next in
     (c.loop-next-test.true, p.j_bound.0, p.wired.long, p.wired.laid)
 
 pub note_list-requires-in-loop-next : goal.note_list-requires-in-loop-next
 note_list-requires-in-loop-next c =
     let a = c.args in
-    let p = s.requires in
+    let p = c.requires in
     let l = c.loop-next in (
       rw c.between-in-loop-next.ensures (c.requires.wired.right (8 * l.next + a.j) (omega (arith, p.j_bound.0, c.loop-next-test.true))),
       omega (arith, c.note_list.auto.seen, l.invariant.0, p.j_bound.1),
@@ -54,7 +54,7 @@ note_list-requires-in-loop-next c =
 pub loop-next-preserved : goal.loop-next-preserved
 loop-next-preserved c =
     let a = c.args in
-    let p = s.requires in
+    let p = c.requires in
     let l = c.loop-next in
     let t = c.note_list in
     let u = c.note_list-in-loop-next in (

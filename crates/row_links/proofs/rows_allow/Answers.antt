@@ -10,7 +10,6 @@ use Rattle.gradings.specs.Gradings.{grading}
 use Rattle.sections.specs.Terms.{term_count, terms_of}
 use Rattle.sections.proofs.Terms.{length-terms}
 use Rattle.grades.specs.Rows.{entry}
-use Rattle.std.proofs.lemmas.Bool.{not-false, not-true}
 use Rattle.row_links.proofs.rows_allow.Goals as goal
 
 pub loop-i-init : goal.loop-i-init
@@ -18,10 +17,10 @@ loop-i-init c = (omega arith, below_none _)
 
 pub returns-then-not-term_allows : goal.returns-then-not-term_allows
 returns-then-not-term_allows c =
-    tells_no (λ h. told_no _ c.term_allows.ensures (not-true _ c.if-not-term_allows.true) (h c.loop-i.i (rw (length-terms c.args.terms.now) (omega arith))))
+    tells_no (λ h. told_no _ c.term_allows.ensures c.if-not-term_allows.true (h c.loop-i.i (rw (length-terms c.args.terms.now) (omega arith))))
 
 pub loop-i-preserved : goal.loop-i-preserved
-loop-i-preserved c = (omega arith, below_more _ c.loop-i.i c.loop-i.invariant.1 (told_yes _ c.term_allows.ensures (not-false _ c.if-not-term_allows.false)))
+loop-i-preserved c = (omega arith, below_more _ c.loop-i.i c.loop-i.invariant.1 (told_yes _ c.term_allows.ensures c.if-not-term_allows.false))
 
 pub returns : goal.returns
 returns c =

@@ -6,7 +6,6 @@ use borrow.Author.Rules.{rules}
 use Rattle.grades.proofs.OneTerm.{child-below, allows-role, allows-kind, allows-quantified}
 use Rattle.grades.specs.Rows.{entry}
 use Rattle.chain.proofs.Decisions.{tells_yes, told_yes, told_no}
-use Rattle.std.proofs.lemmas.Bool.{not-false, not-true}
 use Rattle.row_links.proofs.term_allows.Goals as goal
 
 pub returns-then-kind-lt4 : goal.returns-then-kind-lt4
@@ -20,21 +19,20 @@ returns-then-kind-gt5 c =
 pub returns-then-not-governs : goal.returns-then-not-governs
 returns-then-not-governs c =
     tells_yes (allows-role c.args.logic c.args.terms.now c.args.role (entry c.args.first.now) (entry c.args.second.now) c.args.level c.args.i c.requires.i_bound
-    (omega (arith, c.if-kind-lt4.false)) (omega (arith, c.if-kind-gt5.false)) (told_no _ c.governs.ensures (not-true _ c.if-not-governs.true)))
+    (omega (arith, c.if-kind-lt4.false)) (omega (arith, c.if-kind-gt5.false)) (told_no _ c.governs.ensures c.if-not-governs.true))
 
 pub child_grade-child-requires : goal.child_grade-child-requires
-child_grade-child-requires c =
-    (
-      omega arith,
-      omega (
-        arith,
-        child-below c.args.logic c.args.terms.now c.args.role (entry c.args.first.now) (entry c.args.second.now) c.args.level c.args.i
-            c.requires.i_bound (omega (arith, c.if-kind-lt4.false)) (omega (arith, c.if-kind-gt5.false)) c.requires.terms_right,
-      ),
-    )
+child_grade-child-requires c = (
+  omega arith,
+  omega (
+    arith,
+    child-below c.args.logic c.args.terms.now c.args.role (entry c.args.first.now) (entry c.args.second.now) c.args.level c.args.i
+        c.requires.i_bound (omega (arith, c.if-kind-lt4.false)) (omega (arith, c.if-kind-gt5.false)) c.requires.terms_right,
+  ),
+)
 
 pub returns : goal.returns
 returns c =
     allows-quantified c.args.logic c.args.terms.now c.args.role (entry c.args.first.now) (entry c.args.second.now) c.args.level c.args.i c.requires.i_bound
     (omega (arith, c.if-kind-lt4.false)) (omega (arith, c.if-kind-gt5.false)) _
-    (told_yes _ c.governs.ensures (not-false _ c.if-not-governs.false)) (rw (← c.child_grade-child.ensures) c.permits.ensures)
+    (told_yes _ c.governs.ensures c.if-not-governs.false) (rw (← c.child_grade-child.ensures) c.permits.ensures)

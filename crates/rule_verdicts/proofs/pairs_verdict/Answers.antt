@@ -11,7 +11,6 @@ use Rattle.working.specs.declared.Verdict.TheVariants.{Meets}
 use Rattle.working.proofs.Working.{first_start, first_more, first-end, first_found}
 use Rattle.cells.specs.Cells.{link_in}
 use Rattle.rule_verdicts.proofs.Judging.{pairs_first}
-use Rattle.std.proofs.lemmas.Bool.{not-false, not-true}
 use Rattle.rule_verdicts.proofs.pairs_verdict.Goals as goal
 
 pub loop-i-init : goal.loop-i-init
@@ -23,10 +22,10 @@ pair_verdict-v-requires c = (omega arith, c.requires.0 c.loop-i.i (omega arith),
 pub returns-then-not-met : goal.returns-then-not-met
 returns-then-not-met c =
     let l = c.loop-i in
-    first_found _ _ l.i _ (omega arith) l.invariant.1 c.pair_verdict-v.ensures (told_no _ c.met.ensures (not-true _ c.if-not-met.true)) ∙ sym (pairs_first _ _ _)
+    first_found _ _ l.i _ (omega arith) l.invariant.1 c.pair_verdict-v.ensures (told_no _ c.met.ensures c.if-not-met.true) ∙ sym (pairs_first _ _ _)
 
 pub loop-i-preserved : goal.loop-i-preserved
-loop-i-preserved c = (omega arith, first_more _ c.loop-i.i c.loop-i.invariant.1 (sym c.pair_verdict-v.ensures ∙ told_yes _ c.met.ensures (not-false _ c.if-not-met.false)))
+loop-i-preserved c = (omega arith, first_more _ c.loop-i.i c.loop-i.invariant.1 (sym c.pair_verdict-v.ensures ∙ told_yes _ c.met.ensures c.if-not-met.false))
 
 pub returns : goal.returns
 returns c = first-end _ _ c.loop-i.i (omega arith) c.loop-i.invariant.1 ∙ sym (pairs_first _ _ _)

@@ -11,7 +11,6 @@ use Rattle.working.specs.declared.Verdict.TheVariants.{Meets}
 use Rattle.working.proofs.Working.{first_start, first_more, first-end, first_found}
 use Rattle.columns.specs.Columns.{cell_at}
 use Rattle.rule_verdicts.proofs.Judging.{rules-first}
-use Rattle.std.proofs.lemmas.Bool.{not-false, not-true}
 use Rattle.rule_verdicts.proofs.rules_verdict.Goals as goal
 
 pub loop-i-init : goal.loop-i-init
@@ -21,10 +20,10 @@ pub rule_verdict-v-requires : goal.rule_verdict-v-requires
 rule_verdict-v-requires c = (omega arith, c.requires.0 c.loop-i.i (omega arith), c.requires.1)
 
 pub returns-then-not-met : goal.returns-then-not-met
-returns-then-not-met c = first_found _ _ c.loop-i.i _ (omega arith) c.loop-i.invariant.1 c.rule_verdict-v.ensures (told_no _ c.met.ensures (not-true _ c.if-not-met.true)) ∙ sym (rules-first _ _ _)
+returns-then-not-met c = first_found _ _ c.loop-i.i _ (omega arith) c.loop-i.invariant.1 c.rule_verdict-v.ensures (told_no _ c.met.ensures c.if-not-met.true) ∙ sym (rules-first _ _ _)
 
 pub loop-i-preserved : goal.loop-i-preserved
-loop-i-preserved c = (omega arith, first_more _ c.loop-i.i c.loop-i.invariant.1 (sym c.rule_verdict-v.ensures ∙ told_yes _ c.met.ensures (not-false _ c.if-not-met.false)))
+loop-i-preserved c = (omega arith, first_more _ c.loop-i.i c.loop-i.invariant.1 (sym c.rule_verdict-v.ensures ∙ told_yes _ c.met.ensures c.if-not-met.false))
 
 pub returns : goal.returns
 returns c = first-end _ _ c.loop-i.i (omega arith) c.loop-i.invariant.1 ∙ sym (rules-first _ _ _)

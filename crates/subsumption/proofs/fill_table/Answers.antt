@@ -19,5 +19,5 @@ returns c =
     let G = grading c.args.logic (terms_of c.args.terms.now) in
     let n = term_count c.args.terms.now in
     c.write_sets.ensures ∙ ap (λ (l : List ℕ). l ++ drop (n * n) c.args.table.now)
-    (sets_table G (marked c.args.marks.now c.args.count) n narrow-all.new.1.1.1.1.0 (sym (length-terms c.args.terms.now))
-    (narrowed_marked G c.args.marks.now c.args.count n suppose-all.new.1.0 narrow-all.new.1.1.1.1.0 c.requires.terms_bound.0 suppose-all.ensures narrow-all.ensures))
+    (sets_table G (marked c.args.marks.now c.args.count) n narrow-all.new.sets (sym (length-terms c.args.terms.now))
+    (narrowed_marked G c.args.marks.now c.args.count n suppose-all.new.sets narrow-all.new.sets c.requires.terms_bound.0 suppose-all.ensures narrow-all.ensures))

@@ -54,5 +54,8 @@ pub returns : goal.returns
 returns c =
     let a = c.args in
     let l = c.loop-y in
-    let e : l.y ≡ constraint_count a.s.now = omega (arith, l.invariant.1, c.loop-y-test.false) in record { narrowed = subst (λ (x : ℕ). Narrowed a.logic a.columns (λ v. (z : ℕ) → z < x → Met a.logic (constraint_at a.s.now z) v a.target.now)
-          a.bounds.now a.start l.bounds l.m) e l.invariant.3; upper_bound = omega (arith, l.invariant.2) }
+    let e : l.y ≡ constraint_count a.s.now = omega (arith, l.invariant.1, c.loop-y-test.false) in record {
+      narrowed = subst (λ (x : ℕ). Narrowed a.logic a.columns (λ v. (z : ℕ) → z < x → Met a.logic (constraint_at a.s.now z) v a.target.now)
+          a.bounds.now a.start l.bounds l.m) e l.invariant.3;
+      upper_bound = omega (arith, l.invariant.2);
+    }

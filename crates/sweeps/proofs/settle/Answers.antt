@@ -21,10 +21,16 @@ pub settle_in-requires : goal.settle_in-requires
 settle_in-requires c =
     let a = c.args in
     let p = c.requires.sources_bound in
-    let room : 16 * a.sources ≤ 262144 = mul-le-mul_left 16 p.0 in record { ready = c.requires.ready; sources_in_bounds = (
-          le_trans room (zeros-long 262144),
-          p.0,
-          p.1,
-          length-take-le a.sources (replicate 16384 0) (le_trans p.0 (zeros-long 16384)),
-          length-take-le a.targets (replicate 16384 0) (le_trans p.1 (zeros-long 16384)),
-        ); into = c.requires.into; counted = c.requires.counted; by_index = zeros-at 262144 }
+    let room : 16 * a.sources ≤ 262144 = mul-le-mul_left 16 p.0 in record {
+      ready = c.requires.ready;
+      sources_in_bounds = (
+        le_trans room (zeros-long 262144),
+        p.0,
+        p.1,
+        length-take-le a.sources (replicate 16384 0) (le_trans p.0 (zeros-long 16384)),
+        length-take-le a.targets (replicate 16384 0) (le_trans p.1 (zeros-long 16384)),
+      );
+      into = c.requires.into;
+      counted = c.requires.counted;
+      by_index = zeros-at 262144;
+    }

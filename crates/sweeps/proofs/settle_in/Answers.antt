@@ -45,10 +45,15 @@ sweep-next-requires c =
     let p = c.requires.sources_in_bounds in
     let q = c.requires.into in
     let l = c.loop-rest in
-    let K = classes (tables a.logic a.sources a.targets a.slots.now a.own.now a.child.now) a.source.now a.target.now in record { ready = c.requires.ready; sources_in_bounds = (omega (arith, p.0, l.invariant.1), p.1, p.2, l.invariant.2, l.invariant.3); into = (
-            (omega (arith, q.0.0, l.invariant.0), λ i h. q.0.1 i (omega (arith, l.invariant.0))),
-            (omega (arith, q.1.0, l.invariant.0), λ i h. q.1.1 i (omega (arith, l.invariant.0))),
-          ); state = subst (λ (z : ℕ). State K z l.marks l.memory l.alive l.present l.rest) (sym l.invariant.0) l.invariant.4 }
+    let K = classes (tables a.logic a.sources a.targets a.slots.now a.own.now a.child.now) a.source.now a.target.now in record {
+      ready = c.requires.ready;
+      sources_in_bounds = (omega (arith, p.0, l.invariant.1), p.1, p.2, l.invariant.2, l.invariant.3);
+      into = (
+        (omega (arith, q.0.0, l.invariant.0), λ i h. q.0.1 i (omega (arith, l.invariant.0))),
+        (omega (arith, q.1.0, l.invariant.0), λ i h. q.1.1 i (omega (arith, l.invariant.0))),
+      );
+      state = subst (λ (z : ℕ). State K z l.marks l.memory l.alive l.present l.rest) (sym l.invariant.0) l.invariant.4;
+    }
 
 pub shape_of-memory-then-next-rest : goal.shape_of-memory-then-next-rest
 shape_of-memory-then-next-rest c =
@@ -85,11 +90,10 @@ loop-rest-preserved c =
     let l = c.loop-rest in
     let W = c.sweep-next in
     let K = classes (tables a.logic a.sources a.targets a.slots.now a.own.now a.child.now) a.source.now a.target.now in
-    let r = W.new.memory in
-    let memory = r.0 in
-    let alive = r.1.0 in
-    let present = r.1.1.0 in
-    let marks = r.1.1.1.0 in (
+    let memory = W.new.memory in
+    let alive = W.new.alive in
+    let present = W.new.present in
+    let marks = W.new.marks in (
       omega (arith, W.auto, l.invariant.0),
       omega (arith, W.auto, l.invariant.1),
       omega (arith, W.auto, l.invariant.2),

@@ -24,8 +24,7 @@ overflow_add-word c =
 
 pub loop-j-preserved : goal.loop-j-preserved
 loop-j-preserved c =
-    let t = c.loop-j in
-    (
+    let t = c.loop-j in (
       omega (arith, t.invariant.0),
       gathered_more c.args.row.now c.args.level t.j t.word c.reaches.result c.loop-j-test.true t.invariant.0
           c.reaches.ensures.0 c.reaches.ensures.1 t.invariant.1,

@@ -11,23 +11,17 @@ use Rattle.term_sets.specs.Sets.{set_table}
 use Rattle.term_sets.proofs.Sets.{sets_none, sets_more}
 use Rattle.term_sets.proofs.write_sets.Goals as goal
 
-row_fits : (c : tie.In-loop invariant-loop decreases-loop)
-    → c.before.loop.i * c.before.before.before.before.args.n + c.before.before.before.before.args.n ≤ length c.before.loop.table
-row_fits c =
-    let s = c.before.before.before.before in
-    omega (arith, block_fits s.args.n c.before.loop.i s.args.n c.loop-test.true, c.before.loop.invariant.1, s.requires.2)
-
 pub loop-i-init : goal.loop-i-init
 loop-i-init c = (omega arith, omega arith, sets_none _ _ _)
 
 pub overflow_mul-start : goal.overflow_mul-start
-overflow_mul-start c = omega (arith, row_fits c)
+overflow_mul-start c = omega (arith, block_fits c.args.n c.loop-i.i c.args.n c.loop-i-test.true, c.loop-i.invariant.1, c.requires.2)
 
 pub overflow_add-end : goal.overflow_add-end
-overflow_add-end c = omega (arith, row_fits c)
+overflow_add-end c = omega (arith, block_fits c.args.n c.loop-i.i c.args.n c.loop-i-test.true, c.loop-i.invariant.1, c.requires.2)
 
 pub slice_bounds-write_set-count : goal.slice_bounds-write_set-count
-slice_bounds-write_set-count c = omega (arith, row_fits c)
+slice_bounds-write_set-count c = omega (arith, block_fits c.args.n c.loop-i.i c.args.n c.loop-i-test.true, c.loop-i.invariant.1, c.requires.2)
 
 pub write_set-requires : goal.write_set-requires
 write_set-requires c =
@@ -47,7 +41,7 @@ loop-i-preserved c =
       omega (arith, c.loop-i-test.true),
       c.table-1.given.1 ∙ t.invariant.1,
       sets_more c.args.n c.args.sets.now t.i t.table c.args.table.now c.write_set.new.row t.invariant.2
-          (row_fits c) c.write_set.ensures,
+          (omega (arith, block_fits c.args.n c.loop-i.i c.args.n c.loop-i-test.true, c.loop-i.invariant.1, c.requires.2)) c.write_set.ensures,
     )
 
 pub shape_of-table : goal.shape_of-table

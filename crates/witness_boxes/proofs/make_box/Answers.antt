@@ -47,5 +47,8 @@ pub returns : goal.returns
 returns c =
     let a = c.args in
     let i = c.loop-j.invariant in
-    let t = c.loop-j-test.false in record { narrowed = narrowed_map a.logic (slot_count a.slots.now) _ (AllowsRow a.logic a.slots.now a.own.now a.c a.q a.level) a.bounds.now a.start
-          c.loop-j.bounds c.loop-j.m (λ v on. (λ f j h. f j (omega arith) h, λ f j g h. f j h)) i.3; upper_bound = omega (arith, i.1, c.requires.q_bound.1) }
+    let t = c.loop-j-test.false in record {
+      narrowed = narrowed_map a.logic (slot_count a.slots.now) _ (AllowsRow a.logic a.slots.now a.own.now a.c a.q a.level) a.bounds.now a.start
+          c.loop-j.bounds c.loop-j.m (λ v on. (λ f j h. f j (omega arith) h, λ f j g h. f j h)) i.3;
+      upper_bound = omega (arith, i.1, c.requires.q_bound.1);
+    }

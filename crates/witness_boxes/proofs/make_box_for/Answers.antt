@@ -17,8 +17,11 @@ wants-level-requires c =
 
 pub returns-then-logic-level : goal.returns-then-logic-level
 returns-then-logic-level c =
-    let a = c.args in record { boxes_2 = boxes_none a.logic a.slots.now a.own.now a.c a.q a.wanted.now a.spans.now a.bounds.now a.x c.wants-level.result a.k
-          (omega (arith, c.requires.steps_bound)) c.requires.boxes c.wants-level.ensures c.if-logic-level.true; upper_bound = omega arith }
+    let a = c.args in record {
+      boxes_2 = boxes_none a.logic a.slots.now a.own.now a.c a.q a.wanted.now a.spans.now a.bounds.now a.x c.wants-level.result a.k
+          (omega (arith, c.requires.steps_bound)) c.requires.boxes c.wants-level.ensures c.if-logic-level.true;
+      upper_bound = omega arith;
+    }
 
 pub bounds-wanted-at-then-at-gt0 : goal.bounds-wanted-at-then-at-gt0
 bounds-wanted-at-then-at-gt0 c =
@@ -28,8 +31,11 @@ pub returns-then-wanted-at : goal.returns-then-wanted-at
 returns-then-wanted-at c =
     let a = c.args in
     let l = boxes_shared a.logic a.slots.now a.own.now a.c a.q a.wanted.now a.spans.now a.bounds.now a.x c.wants-level.result a.k
-    (omega (arith, c.requires.steps_bound)) c.requires.boxes c.wants-level.ensures (omega (arith, c.requires.steps_bound)) (omega (arith, c.if-at-gt0.true)) (omega (arith, c.if-logic-level.false)) c.if-wanted-at.true in record { boxes_2 = subst (λ (z : List ℕ). Boxes a.logic a.slots.now a.own.now a.c a.q (set a.wanted.now a.x c.wants-level.result) z a.bounds.now (a.x + 1) a.k)
-          (sym c.put_span.ensures) l; upper_bound = omega arith }
+    (omega (arith, c.requires.steps_bound)) c.requires.boxes c.wants-level.ensures (omega (arith, c.requires.steps_bound)) (omega (arith, c.if-at-gt0.true)) (omega (arith, c.if-logic-level.false)) c.if-wanted-at.true in record {
+      boxes_2 = subst (λ (z : List ℕ). Boxes a.logic a.slots.now a.own.now a.c a.q (set a.wanted.now a.x c.wants-level.result) z a.bounds.now (a.x + 1) a.k)
+          (sym c.put_span.ensures) l;
+      upper_bound = omega arith;
+    }
 
 pub make_box-r-requires : goal.make_box-r-requires
 make_box-r-requires c =
@@ -41,5 +47,8 @@ returns c =
     let m = c.make_box-r in
     let bounds = m.new.bounds in
     let l = boxes_made a.logic a.slots.now a.own.now a.c a.q a.wanted.now a.spans.now a.bounds.now a.x c.wants-level.result a.k
-    (omega (arith, c.requires.steps_bound)) c.requires.boxes c.wants-level.ensures (omega (arith, c.requires.steps_bound)) bounds m.result m.ensures.narrowed in record { boxes_2 = subst (λ (z : List ℕ). Boxes a.logic a.slots.now a.own.now a.c a.q (set a.wanted.now a.x c.wants-level.result) z bounds (a.x + 1) m.result)
-          (sym c.put_span-2.ensures) l; upper_bound = m.ensures.upper_bound }
+    (omega (arith, c.requires.steps_bound)) c.requires.boxes c.wants-level.ensures (omega (arith, c.requires.steps_bound)) bounds m.result m.ensures.narrowed in record {
+      boxes_2 = subst (λ (z : List ℕ). Boxes a.logic a.slots.now a.own.now a.c a.q (set a.wanted.now a.x c.wants-level.result) z bounds (a.x + 1) m.result)
+          (sym c.put_span-2.ensures) l;
+      upper_bound = m.ensures.upper_bound;
+    }

@@ -5,7 +5,6 @@ use borrow.Author.Rules.{rules}
 use Rattle.chain.proofs.Decisions.{tells_no, tells_map, tells_eq, told_yes, told_no}
 use Rattle.witness_boxes.specs.Search.{InBox}
 use Rattle.zones.proofs.Zones.{row-long, row_at}
-use Rattle.std.proofs.lemmas.Bool.{not-false, not-true}
 use Rattle.witness_search.proofs.hit.Goals as goal
 
 pub in_box-requires : goal.in_box-requires
@@ -19,11 +18,11 @@ in_box-requires c =
 pub returns-then-not-in_box : goal.returns-then-not-in_box
 returns-then-not-in_box c =
     let a = c.args in
-    tells_no (λ h. told_no _ c.in_box.ensures (not-true _ c.if-not-in_box.true)
+    tells_no (λ h. told_no _ c.in_box.ensures c.if-not-in_box.true
     (subst (InBox a.logic.steps a.wanted.now a.spans.now a.bounds.now a.q) (sym c.row_of.ensures) h.1))
 
 pub returns : goal.returns
 returns c =
     let a = c.args in
-    let f = subst (InBox a.logic.steps a.wanted.now a.spans.now a.bounds.now a.q) c.row_of.ensures (told_yes _ c.in_box.ensures (not-false _ c.if-not-in_box.false)) in
+    let f = subst (InBox a.logic.steps a.wanted.now a.spans.now a.bounds.now a.q) c.row_of.ensures (told_yes _ c.in_box.ensures c.if-not-in_box.false) in
     tells_map _ (λ e. (e, f)) (λ h. h.0) (tells_eq _ _)

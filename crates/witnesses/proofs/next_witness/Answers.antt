@@ -23,14 +23,18 @@ next_hit-requires c =
     let wanted = v.new.wanted in
     let spans = v.new.spans in
     let bounds = v.new.bounds in
-    let k = v.auto in record { steps_bound = (R.low_steps, omega (arith, k), omega (arith, k), p.0, R.child_room, R.zone_room); by_index = λ d h. R.child_le d a.q h p.2; by_index_2 = (
-          slot_count a.slots.now,
-          R.few,
-          p.2,
-          boxes_legible (tables a.logic a.sources (length a.marks.now) a.slots.now a.own.now a.child.now) R a.c a.q p.2 wanted spans
-              bounds v.result v.ensures.0 (omega (arith, k, v.ensures.1)),
-          R.zoned,
-        ) }
+    let k = v.auto in record {
+      steps_bound = (R.low_steps, omega (arith, k), omega (arith, k), p.0, R.child_room, R.zone_room);
+      by_index = λ d h. R.child_le d a.q h p.2;
+      by_index_2 = (
+        slot_count a.slots.now,
+        R.few,
+        p.2,
+        boxes_legible (tables a.logic a.sources (length a.marks.now) a.slots.now a.own.now a.child.now) R a.c a.q p.2 wanted spans
+            bounds v.result v.ensures.0 (omega (arith, k, v.ensures.1)),
+        R.zoned,
+      );
+    }
 
 pub returns : goal.returns
 returns c =

@@ -10,7 +10,6 @@ use Rattle.chain.proofs.Decisions.{tells_yes, tells_no, told_yes, told_no}
 use Rattle.slots.specs.Slots.{slot_count}
 use Rattle.witness_boxes.specs.Tables.{tables}
 use Rattle.witness_boxes.specs.Search.{Backed, Remembers}
-use Rattle.std.proofs.lemmas.Bool.{not-false, not-true}
 use Rattle.witnesses.proofs.supported.Goals as goal
 
 pub loop-q-init : goal.loop-q-init
@@ -25,13 +24,13 @@ backed-requires c =
 pub returns-then-not-backed : goal.returns-then-not-backed
 returns-then-not-backed c =
     let b = c.backed.ensures in
-    record { tells = tells_no (λ h. told_no _ b.tells (not-true _ c.if-not-backed.true) (h c.loop-q.q (omega arith))); remembers_2 = b.remembers_2 }
+    record { tells = tells_no (λ h. told_no _ b.tells c.if-not-backed.true (h c.loop-q.q (omega arith))); remembers_2 = b.remembers_2 }
 
 pub loop-q-preserved : goal.loop-q-preserved
 loop-q-preserved c =
     let l = c.loop-q in
     let b = c.backed in
-    (omega arith, omega (arith, b.auto), b.ensures.remembers_2, below_more _ l.q l.invariant.3 (told_yes _ b.ensures.tells (not-false _ c.if-not-backed.false)))
+    (omega arith, omega (arith, b.auto), b.ensures.remembers_2, below_more _ l.q l.invariant.3 (told_yes _ b.ensures.tells c.if-not-backed.false))
 
 pub returns : goal.returns
 returns c =

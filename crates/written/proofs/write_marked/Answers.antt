@@ -52,30 +52,34 @@ write_model-requires c =
     let few = right-individuals c.args.b.now c.args.s c.requires.right in
     let lt = (ap length (list-marked.ensures.1 ∙ c.requires.count_bound.2) ∙ sym c.requires.elements_value.0) in
     let li = length-take-le c.args.p.individuals seats (omega (arith, c.requires.elements_value.3, few, c.read_placement.auto)) in
-    let e = sym c.terms_in.ensures in record { terms_right = subst (λ (z : List ℕ). TermsRight z) e c.requires.right.terms_right; types_len_bound = (
-          omega (arith, lt, c.requires.elements_bound.0),
-          subst (λ (z : List ℕ). term_count z ≤ 64) e (omega (arith, right-terms c.args.b.now c.args.s c.requires.right, right-few c.args.b.now c.args.s c.requires.right)),
-          omega (arith, c.requires.elements_value.1, right-names c.args.b.now c.args.s c.requires.right),
-          omega (arith, c.requires.elements_value.2, right_roles c.args.b.now c.args.s c.requires.right),
-          omega (arith, li, c.requires.elements_value.3, few),
-        ); seats_in_bounds = omega (
-          arith,
-          end_same c.args.s.steps c.logic_in.result [] c.args.p (take list-marked.result list-marked.new.1.1.0)
-              (take c.args.p.individuals seats) lt li,
-          c.requires.elements_bound.3,
-        ) }
+    let e = sym c.terms_in.ensures in record {
+      terms_right = subst (λ (z : List ℕ). TermsRight z) e c.requires.right.terms_right;
+      types_len_bound = (
+        omega (arith, lt, c.requires.elements_bound.0),
+        subst (λ (z : List ℕ). term_count z ≤ 64) e (omega (arith, right-terms c.args.b.now c.args.s c.requires.right, right-few c.args.b.now c.args.s c.requires.right)),
+        omega (arith, c.requires.elements_value.1, right-names c.args.b.now c.args.s c.requires.right),
+        omega (arith, c.requires.elements_value.2, right_roles c.args.b.now c.args.s c.requires.right),
+        omega (arith, li, c.requires.elements_value.3, few),
+      );
+      seats_in_bounds = omega (
+        arith,
+        end_same c.args.s.steps c.logic_in.result [] c.args.p (take list-marked.result list-marked.new.types)
+            (take c.args.p.individuals seats) lt li,
+        c.requires.elements_bound.3,
+      );
+    }
 
 pub returns : goal.returns
 returns c =
     let list-marked = c.list_marked-n in
     let logic-in = c.logic_in in
     let read-placement = c.read_placement in
-    let seats = read-placement.new.1.1.0 in
+    let seats = read-placement.new.seats in
     let lt = (ap length (list-marked.ensures.1 ∙ c.requires.count_bound.2) ∙ sym c.requires.elements_value.0) in
     let li = length-take-le c.args.p.individuals seats (omega (arith, c.requires.elements_value.3, right-individuals c.args.b.now c.args.s c.requires.right, read-placement.auto)) in
     c.write_model.ensures
     ∙ ap₂ (λ (l : List ℕ) (n : ℕ). l ++ drop n c.args.sheet.now)
-    (model_of_lem c.args.b.now c.args.s c.requires.right logic-in.result logic-in.ensures.0 _ (take list-marked.result list-marked.new.1.1.0)
+    (model_of_lem c.args.b.now c.args.s c.requires.right logic-in.result logic-in.ensures.s_value _ (take list-marked.result list-marked.new.types)
     (take c.args.p.individuals seats) c.args.p.names c.args.p.roles c.terms_in.ensures
     (list-marked.ensures.1 ∙ c.requires.count_bound.2) (c.requires.elements_bound.2 ∙ ap {B = Option (List ℕ)} some (sym read-placement.ensures)) c.requires.elements_value.1 c.requires.elements_value.2)
-    (end_same c.args.s.steps logic-in.result [] c.args.p (take list-marked.result list-marked.new.1.1.0) (take c.args.p.individuals seats) lt li)
+    (end_same c.args.s.steps logic-in.result [] c.args.p (take list-marked.result list-marked.new.types) (take c.args.p.individuals seats) lt li)

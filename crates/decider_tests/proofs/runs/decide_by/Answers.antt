@@ -5,4 +5,4 @@ use Rattle.book.proofs.Opening.{opened_accepted}
 use Rattle.decider_tests.proofs.runs.decide_by.Goals as goal
 
 pub decide-requires-in-Accepted : goal.decide-requires-in-Accepted
-decide-requires-in-Accepted c = opened_accepted _ _ (sym c.«open».ensures.0 ∙ c.s-1.given.1)
+decide-requires-in-Accepted c = opened_accepted _ _ (sym c.in-Accepted.ensures.value)

@@ -1,0 +1,13 @@
+-- Before each read the bytes in the buffer so far are what the reader gave.
+use Rattle.std.proofs.Common.{length, ◌-◌, ◌≤◌, take, ◌≡◌}
+use Rattle.std.specs.Io.KnownBytes.{Consumes}
+use Rattle.reading.proofs.read_full.Given as goal
+
+abbrev pub invariant-loop-done : goal.invariant-loop-done
+invariant-loop-done g l =
+    (l.done ≤ length l.buffer)
+    × (length l.buffer ≡ length l.initial.buffer)
+    × Consumes (g.R.Read.remaining l.fn.reader) (g.R.Read.remaining l.reader) (take l.done l.buffer)
+
+abbrev pub decreases-loop-done : goal.decreases-loop-done
+decreases-loop-done g l = length l.initial.buffer - l.done

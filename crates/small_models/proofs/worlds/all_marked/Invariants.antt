@@ -1,0 +1,10 @@
+-- `small_models::worlds::all_marked` meets its contract. The counter of the loop stays within its bound.
+-- Assumes nothing.
+use Rattle.std.proofs.Common.{◌-◌, ◌≤◌, rules}
+use Rattle.small_models.proofs.worlds.all_marked.Given as goal
+
+abbrev pub invariant-loop-e : goal.invariant-loop-e
+invariant-loop-e l = l.e ≤ l.n
+
+abbrev pub decreases-loop-e : goal.decreases-loop-e
+decreases-loop-e l = l.n - l.e

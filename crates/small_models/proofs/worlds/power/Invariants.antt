@@ -1,0 +1,10 @@
+-- `small_models::worlds::power` meets its contract. The counter of the loop stays within its bound.
+-- Assumes nothing.
+use Rattle.std.proofs.Common.{◌-◌, ◌≤◌, rules}
+use Rattle.small_models.proofs.worlds.power.Given as goal
+
+abbrev pub invariant-loop : goal.invariant-loop
+invariant-loop l = l.counter ≤ l.digits
+
+abbrev pub decreases-loop : goal.decreases-loop
+decreases-loop l = l.digits - l.counter
