@@ -1,7 +1,7 @@
 /*
  * Decides the specification's printed book, writes the sheet of its model and works that out. In the repository's root:
  *
- *     rt staticlib zegbiko
+ *     ./build library
  *     cc -std=c99 -o target/example include/example.c target/staticlib/libzegbiko.a && target/example
  *
  * prints

@@ -2,7 +2,7 @@
  * Zegbiko: checks, decides and works out graded rule books in fuzzy ALC. docs/USING.md has the bytes of books and sheets ("The book", "The
  * sheet"), and recipes.
  *
- * The library is target/staticlib/libzegbiko.a, made by `rt staticlib zegbiko` (x86-64 Linux). It calls nothing but memset and
+ * The library is target/staticlib/libzegbiko.a, made by `./build library` (x86-64 Linux). It calls nothing but memset and
  * memcpy.
  *
  * Every call takes a book's bytes as they come and checks them first: bad input is refused with a number, and nothing is asked

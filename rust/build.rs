@@ -36,9 +36,7 @@ fn main() {
     }
     let said = match &named {
         Some(named) => format!("ZEGBIKO_LIB_DIR is {}: it names the folder of libzegbiko.a", named.display()),
-        None => {
-            "Make it with `rt staticlib zegbiko` at the repository's root, or name its folder in ZEGBIKO_LIB_DIR".into()
-        }
+        None => "Make it with `./build library` at the repository's root, or name its folder in ZEGBIKO_LIB_DIR".into(),
     };
     let directory = directory(named, caller()).unwrap_or_else(|complaint| fail(&format!("{said}; {complaint}.")));
     let library = directory.join("libzegbiko.a");

@@ -23,7 +23,7 @@
 //! some 20 to 75 µs, but placing individuals is exponential at worst, and nothing stops it: decide books of strangers in a
 //! process with a limit of time. [`implied_rules`] places nobody.
 //!
-//! The library is `target/staticlib/libzegbiko.a` of the repository, which `rt staticlib zegbiko` makes, or the one in the
+//! The library is `target/staticlib/libzegbiko.a` of the repository, which `./build library` makes, or the one in the
 //! folder that `ZEGBIKO_LIB_DIR` names when this crate is built; a relative name is meant from the folder in which cargo is
 //! called. x86-64 Linux.
 //!

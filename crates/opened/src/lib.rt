@@ -105,7 +105,7 @@ impl<'a> Book<'a> {
     }
 }
 
-// For callers that need no walk: their parameters are plain, and the opened book is made within.
+// For callers whose parameters are plain: the opened book is made within.
 pub fn decide<'a, 'b, 'c>(
     bytes: &'a [u8],
     sections: Sections,

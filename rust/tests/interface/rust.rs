@@ -10,7 +10,8 @@ pub fn wrapper_calls(text: &str) -> Lines {
 
 pub fn export_calls(text: &str) -> Lines {
     let tokens = tokens(text);
-    let exported = functions(&tokens, &["#", "[", "no_mangle", "]", "pub", "extern", "\"C\"", "fn"]);
+    let marker = "# [ unsafe ( no_mangle ) ] pub extern \"C\" fn";
+    let exported = functions(&tokens, &marker.split(' ').collect::<Vec<_>>());
     exported.into_iter().chain(structs(&tokens)).collect()
 }
 
@@ -60,11 +61,13 @@ fn functions(tokens: &[String], marker: &[&str]) -> Vec<String> {
 }
 
 fn structs(tokens: &[String]) -> Vec<String> {
-    let structs = behind(tokens, &["#", "[", "repr", "(", "C", ")", "]", "pub", "struct"]).map(|rest| {
+    let line = |rest: &[String]| {
         let fields: Vec<Typed> = entries(inside(rest), ",").flat_map(|field| typed(&field[1..])).collect();
         struct_line(&struct_name(&rest[0]), &fields)
-    });
-    structs.collect()
+    };
+    let markers = ["# [ repr ( C ) ] pub struct", "# [ repr ( C ) ] # [ derive ( Clone , Copy ) ] pub struct"];
+    let markers = markers.map(|marker| marker.split(' ').collect::<Vec<_>>());
+    markers.iter().flat_map(|marker| behind(tokens, marker).map(line)).collect()
 }
 
 /// A field or parameter. A slice is two for C, pointer and length. The exports say `b`, since `book` is a crate there.

@@ -15,22 +15,17 @@ name_grade-requires c =
 
 pub taken_at-requires : goal.taken_at-requires
 taken_at-requires c =
-    let lo = c.if-kind-lt4.false in
-    let hi : kind_at c.args.terms.now c.args.i ≤ 5 = omega (arith, c.if-kind-lt6.true) in record { le_kind = (lo, hi, reached c.requires.evaluable.1 c.args.i c.requires.i_bound.0 c.args.values.now c.requires.i_bound.2 c.args.e c.requires.i_bound.1 lo hi); by_index = c.requires.evaluable.1.links_le }
+    let lo : 4 ≤ kind_at c.args.terms.now c.args.i = omega arith in
+    let hi : kind_at c.args.terms.now c.args.i ≤ 5 = omega arith in record { le_kind = (lo, hi, reached c.requires.evaluable.1 c.args.i c.requires.i_bound.0 c.args.values.now c.requires.i_bound.2 c.args.e c.requires.i_bound.1 lo hi); by_index = c.requires.evaluable.1.links_le }
 
-pub plain_grade-requires : goal.plain_grade-requires
-plain_grade-requires c =
+pub plain_grade-requires-clause-i_bound : goal.plain_grade-requires-clause-i_bound
+plain_grade-requires-clause-i_bound c =
     let w = c.requires.evaluable.1 in
-    let i = c.requires.i_bound.0 in
-    let e = c.requires.i_bound.1 in record {
-      i_bound = (omega (arith, w.few_terms), omega (arith, w.few_elements), w.right c.args.i i);
-      by_index = λ j h. cell_le w c.args.i c.args.values.now (omega arith) c.requires.worked_to j h c.args.e e;
-      fact = (
-        c.in_default-1.rest.1,
-        λ k. ⊎_elim (λ t. omega (arith, t.taken)) (λ u. omega (arith, u.1.left)) c.in_default.branch,
-        λ k. ⊎_elim (λ t. omega (arith, t.taken)) (λ u. omega (arith, u.1.left)) c.in_default.branch,
-      );
-    }
+    (omega (arith, w.few_terms), omega (arith, w.few_elements), w.right c.args.i c.requires.i_bound.0)
+
+pub plain_grade-requires-clause-by_index : goal.plain_grade-requires-clause-by_index
+plain_grade-requires-clause-by_index c =
+    λ j h. cell_le c.requires.evaluable.1 c.args.i c.args.values.now (omega arith) c.requires.worked_to j h c.args.e c.requires.i_bound.1
 
 pub returns-in-0 : goal.returns-in-0
 returns-in-0 c =
@@ -46,7 +41,7 @@ returns-in-4 c =
     let i = c.args.i in
     c.taken_at.ensures
     ∙ grade-quantified (kind_at t i) (a_at t i) (b_at t i) c.args.logic c.args.n c.args.a c.args.names.now c.args.links.now
-    c.args.values.now i c.args.e c.if-kind-lt4.false (omega (arith, c.if-kind-lt6.true))
+    c.args.values.now i c.args.e (omega arith) (omega arith)
 
 pub returns-in_default : goal.returns-in_default
 returns-in_default c =

@@ -18,7 +18,7 @@ write_names-requires c =
         c.requires.terms_bound.0,
         c.requires.terms_bound.2.elements_le,
         c.requires.terms_bound.1,
-        length_part (pasted c.args.sheet.now 0 12 head) 12 to.result (part-write-names-end c) ∙ q,
+        length_part (pasted c.args.sheet.now 0 12 head) 12 to.result (search rules) ∙ q,
       );
     }
 
@@ -33,7 +33,7 @@ write_links-requires c =
         c.requires.terms_bound.2.roles_le,
         c.requires.terms_bound.2.elements_le,
         c.requires.terms_bound.1,
-        length_part _ from.result to.result (part-write-links-end c) ∙ q,
+        length_part _ from.result to.result (search rules) ∙ q,
       );
     }
 

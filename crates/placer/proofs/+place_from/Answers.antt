@@ -18,13 +18,13 @@ returns-then-k-individuals t c =
 pub loop-next-init : goal.loop-next-init
 loop-next-init t c =
     let a = c.args in
-    let p = c.requires.1.k_le_individuals in
+    let p = c.requires.k_le_individuals in
     (refl, first_turn a.logic a.net.now a.ends.now a.rows.now a.table.now a.count a.individuals a.k a.seats.now (omega (arith, c.if-k-individuals.false, p.0)) p.1 p.2)
 
 pub next_fit-c-requires : goal.next_fit-c-requires
 next_fit-c-requires t c =
     let u = c.loop-next.invariant.1 in
-    record { setting = c.requires.1.setting; k_lt_individuals = (u.some_left, omega (arith, u.some_left, u.room), u.seated) }
+    record { setting = c.requires.setting; k_lt_individuals = (u.some_left, omega (arith, u.some_left, u.room), u.seated) }
 
 pub shape_of-seats-then-count-c : goal.shape_of-seats-then-count-c
 shape_of-seats-then-count-c t c = c.loop-next.invariant.0
@@ -35,10 +35,10 @@ returns-then-count-c t c =
     record { seats_unchanged = u.same; seats_after = placed_false false _ refl ∙ turn_none u c.next_fit-c.ensures c.if-count-c.true }
 
 pub overflow_add-next : goal.overflow_add-next
-overflow_add-next t c = omega (arith, c.if-count-c.false, c.requires.1.setting.problem.candidates_few)
+overflow_add-next t c = omega (arith, c.if-count-c.false, c.requires.setting.problem.candidates_few)
 
 pub overflow_cast-seats : goal.overflow_cast-seats
-overflow_cast-seats t c = omega (arith, c.if-count-c.false, c.requires.1.setting.problem.candidates_few)
+overflow_cast-seats t c = omega (arith, c.if-count-c.false, c.requires.setting.problem.candidates_few)
 
 pub bounds-seats-k : goal.bounds-seats-k
 bounds-seats-k t c = let u = c.loop-next.invariant.1 in omega (arith, u.some_left, u.room)
@@ -48,16 +48,13 @@ place_from-requires t c =
     let l = c.loop-next in
     let u = l.invariant.1 in
     let r = c.next_fit-c.result in (
-      omega (arith, c.requires.0, u.some_left),
-      record {
-        setting = c.requires.1.setting;
-        k_le_individuals = (
+      omega (arith, u.some_left),
+      (c.requires.setting, (
           omega (arith, u.some_left),
           omega (arith, length-set l.seats c.args.k r, u.room),
-          seated-next l.seats c.args.k r (omega (arith, u.some_left, u.room)) (omega (arith, c.if-count-c.false, c.requires.1.setting.problem.candidates_few))
+          seated-next l.seats c.args.k r (omega (arith, u.some_left, u.room)) (omega (arith, c.if-count-c.false, c.requires.setting.problem.candidates_few))
               u.seated,
-        );
-      },
+        )),
     )
 
 pub shape_of-seats-then-place_from : goal.shape_of-seats-then-place_from

@@ -25,7 +25,7 @@ fill_tables-requires c =
     let prepared : Prepared a.logic a.terms.now a.slots.now a.memberships.now a.links.now a.marks.now a.count a.individuals c.connect.new.net c.connect.new.ends =
     record { task = c.requires.task; network = c.connect.ensures } in
     let solvable : Problem a.logic (2 * slot_count a.slots.now) c.connect.new.net c.connect.new.ends a.count a.individuals c.args.rows.now =
-    problem prepared c.args.rows.now (c.requires.in_bounds.3) (omega (arith, c.connect.auto.ends, c.requires.in_bounds.1)) in
+    problem prepared c.args.rows.now (omega (arith, c.connect.auto.ends, c.requires.in_bounds.1)) c.requires.in_bounds.3 in
     let t = c.requires.task in
     let y = c.requires.in_bounds in record {
       task = record { terms_right = t.terms_right; few_terms = t.few_terms; slots_are = t.slots_are; memberships_right = t.memberships_right };
@@ -41,7 +41,7 @@ in_vain-requires c =
     let rows_long : 524288 ≤ length c.fill_tables.new.rows = omega (arith, c.fill_tables.auto.rows, c.requires.in_bounds.3) in
     let table_long : 131072 ≤ length c.fill_tables.new.table = omega (arith, c.fill_tables.auto.table, c.requires.in_bounds.4) in
     let solvable : Problem a.logic (2 * slot_count a.slots.now) c.connect.new.net c.connect.new.ends a.count a.individuals c.fill_tables.new.rows =
-    problem prepared c.fill_tables.new.rows (rows_long) (omega (arith, c.connect.auto.ends, c.requires.in_bounds.1)) in
+    problem prepared c.fill_tables.new.rows (omega (arith, c.connect.auto.ends, c.requires.in_bounds.1)) rows_long in
     (c.requires.task.few, solvable.individuals_few, table_long)
 
 pub returns-then-in_vain : goal.returns-then-in_vain
@@ -62,7 +62,7 @@ place_thinned-requires c =
     let rows_long : 524288 ≤ length c.fill_tables.new.rows = omega (arith, c.fill_tables.auto.rows, c.requires.in_bounds.3) in
     let table_long : 131072 ≤ length c.fill_tables.new.table = omega (arith, c.fill_tables.auto.table, c.requires.in_bounds.4) in
     let solvable : Problem a.logic (2 * slot_count a.slots.now) c.connect.new.net c.connect.new.ends a.count a.individuals c.fill_tables.new.rows =
-    problem prepared c.fill_tables.new.rows (rows_long) (omega (arith, c.connect.auto.ends, c.requires.in_bounds.1)) in
+    problem prepared c.fill_tables.new.rows (omega (arith, c.connect.auto.ends, c.requires.in_bounds.1)) rows_long in
     record {
       problem = solvable;
       in_bounds = (table_long, c.requires.individuals_in_bounds, filtered_graded prepared c.fill_tables.new.rows c.fill_tables.new.table c.fill_tables.ensures);

@@ -25,7 +25,7 @@ place_pruned-requires c =
       setting = record { problem = c.requires.problem; table_long = omega (arith, g.auto.table, t.auto.table, c.requires.in_bounds.0); gaps = g.ensures.gaps };
       individuals_in_bounds = (
         omega (arith, c.place_at_once.auto.seats, c.requires.in_bounds.1),
-        λ j c h l e. c.requires.in_bounds.2 j c h l (t.ensures.fewer _ ((g.ensures.same_allowed _).0 e)),
+        λ j k h l e. c.requires.in_bounds.2 j k h l (t.ensures.fewer _ ((g.ensures.same_allowed _).0 e)),
       );
     }
 

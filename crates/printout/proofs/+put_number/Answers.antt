@@ -13,11 +13,11 @@ pub returns-then-n-lt10 : goal.returns-then-n-lt10
 returns-then-n-lt10 t c = added_same (sym (decimal_small c.args.n (omega arith))) c.put_digit.ensures
 
 pub put_number-last-requires : goal.put_number-last-requires
-put_number-last-requires t c = omega (arith, c.requires.0, c.requires.1, length_large c.args.n (omega arith))
+put_number-last-requires t c = omega (arith, length_large c.args.n (omega arith))
 
 pub put_digit-requires-2 : goal.put_digit-requires-2
 put_digit-requires-2 t c =
-    omega (arith, c.requires.1, c.put_number-last.ensures.ends, c.put_number-last.auto.out, length_large c.args.n (omega arith))
+    omega (arith, c.put_number-last.ensures.ends, c.put_number-last.auto.out, length_large c.args.n (omega arith))
 
 pub returns : goal.returns
 returns t c =

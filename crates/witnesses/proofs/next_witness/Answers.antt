@@ -12,7 +12,7 @@ use Rattle.witnesses.proofs.next_witness.Goals as goal
 pub make_boxes-requires : goal.make_boxes-requires
 make_boxes-requires c =
     let R = c.requires.ready in
-    let p = c.requires.marks_len_bound in record { q_bound = (p.2, R.few, omega (arith, p), omega (arith, p, R.Own-room)); steps_bound = (R.low_steps, omega arith, omega arith, omega arith); by_index = λ j h. let k = R.kinds j h in (k.0, k.1, R.own_le c.args.c j p.1 h) }
+    let p = c.requires.marks_len_bound in record { q_bound = (p.2, R.few, omega (arith, p), omega (arith, p, R.own_room)); steps_bound = (R.low_steps, omega arith, omega arith, omega arith); by_index = λ j h. let k = R.kinds j h in (k.0, k.1, R.own_le c.args.c j p.1 h) }
 
 pub next_hit-requires : goal.next_hit-requires
 next_hit-requires c =
