@@ -8,7 +8,7 @@ use borrow.Author.Rules.{rules}
 use Rattle.decide.proofs.print_types.Given as goal
 
 abbrev pub invariant-loop-first : goal.invariant-loop-first
-invariant-loop-first l = (l.first ≤ length l.marks) × (length l.out ≡ 65536)
+invariant-loop-first g l = (l.first ≤ length l.marks) × (length l.out ≡ 65536)
 
 abbrev pub decreases-loop-first : goal.decreases-loop-first
-decreases-loop-first l = length l.marks - l.first
+decreases-loop-first g l = length l.marks - l.first
