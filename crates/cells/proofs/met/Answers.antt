@@ -1,6 +1,5 @@
 -- `cells::met` meets its contract. The variants after the first are not "meets".
 -- Assumes nothing.
-use mathlib.Core.Logic.{⊎_elim}
 use native.Mathlib.Omega.{arith}
 use borrow.Author.Rules.{rules}
 use Rattle.chain.proofs.Decisions.{tells_yes, tells_no}
@@ -10,4 +9,4 @@ pub returns-in-Meets : goal.returns-in-Meets
 returns-in-Meets c = tells_yes c.in-Meets.is
 
 pub returns-in_default : goal.returns-in_default
-returns-in_default c = tells_no (λ e. ⊎_elim (λ t. omega arith) (λ u. ⊎_elim (λ t. omega arith) (λ w. ⊎_elim (λ t. omega arith) (λ t. omega arith) w) u) (rw e at c.in_default.keys2))
+returns-in_default c = tells_no c.in_default.not-Meets

@@ -7,6 +7,9 @@ use borrow.Author.Rules.{rules}
 use Rattle.chain.proofs.Lists.{zeros-long}
 use Rattle.book.proofs.Opening.{right-ordered}
 use Rattle.checker.proofs.Working.{work_16, work_none, worked_says, refused, grid_worked, size_is, size_few}
+use Rattle.book.specs.Reading.{book_of}
+use Rattle.sheets.specs.Reading.{sheet_of}
+use Rattle.checker.specs.Working.{work_questions}
 use Rattle.checker.proofs.work_shaped.Goals as goal
 
 pub count_terms-requires : goal.count_terms-requires
@@ -19,7 +22,8 @@ overflow_mul-p c =
 pub returns-then-grid-p : goal.returns-then-grid-p
 returns-then-grid-p c =
     let size = size_is _ _ _ c.requires.right _ c.requires.sheet_fits _ c.count_terms.ensures in
-    let w = refused _ _ _ _ 16 (work_16 _ _ _ c.requires.right _ c.requires.sheet_fits _ (λ l. omega arith)) in record { value = w.0; grid_after = w.1 }
+    let asked = work_16 _ _ _ c.requires.right _ c.requires.sheet_fits (length c.args.grid.now) (λ l. omega arith) in
+    record { value = (refused (book_of c.args.b.now) (sheet_of c.args.sheet.now) (work_questions c.args.b.now c.args.sheet.now (length c.args.grid.now)) c.args.grid.now 16 asked).0; grid_after = (refused (book_of c.args.b.now) (sheet_of c.args.sheet.now) (work_questions c.args.b.now c.args.sheet.now (length c.args.grid.now)) c.args.grid.now 16 asked).1 }
 
 pub work_fitting-requires : goal.work_fitting-requires
 work_fitting-requires c =

@@ -3,7 +3,7 @@
 use mathlib.Core.Path.{sym, ◌∙◌}
 use lib.ListN.{length}
 use borrow.Author.Rules.{rules}
-use Rattle.chain.proofs.Answers.{numbered-and}
+use Rattle.chain.proofs.Answers.{numbered-and, numbered}
 use Rattle.book.proofs.Opening.{opened_accepted}
 use Rattle.counter.proofs.Counting.{counted_declined, counted-refused}
 use Rattle.decider.specs.Deciding.{decision_number}
@@ -20,4 +20,6 @@ returns-in-Refused c =
     (counted_declined _ _ _ (counted-refused _ _ (sym c.in-Refused.ensures.value))))) in record { value = w.0; result_value = w.1.0; marks_after = w.1.1.0; placement_after = w.1.1.1 }
 
 pub returns-in-Accepted : goal.returns-in-Accepted
-returns-in-Accepted c = let w = numbered-and decision_number (decision_number-is _ _) (c.decide_in.ensures.value, (c.decide_in.ensures.marks_after, c.decide_in.ensures.placement_after)) in record { value = w.0; result_value = w.1.0; marks_after = w.1.1.0; placement_after = w.1.1.1 }
+returns-in-Accepted c = let e = c.decide_in.ensures in
+    let w = numbered decision_number (decision_number-is _ _) e.value in
+    record { value = w.0; result_value = w.1; marks_after = e.marks_after; placement_after = e.placement_after }

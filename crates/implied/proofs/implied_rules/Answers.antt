@@ -3,7 +3,7 @@
 use mathlib.Core.Path.{sym, ◌∙◌}
 use lib.ListN.{length}
 use borrow.Author.Rules.{rules}
-use Rattle.chain.proofs.Answers.{numbered-and}
+use Rattle.chain.proofs.Answers.{numbered-and, numbered}
 use Rattle.book.proofs.Opening.{opened_accepted}
 use Rattle.counter.proofs.Counting.{counted_declined, counted-refused}
 use Rattle.implied.specs.Implying.{implied_number}
@@ -20,4 +20,6 @@ returns-in-Refused c =
     (counted_declined _ _ _ (counted-refused _ _ (sym c.in-Refused.ensures.value))))) in record { value = w.0; result_value = w.1.0; marks_after = w.1.1.0; table_after = w.1.1.1 }
 
 pub returns-in-Accepted : goal.returns-in-Accepted
-returns-in-Accepted c = let w = numbered-and implied_number (implied_number-is _ _) (c.implied_in.ensures.value, (c.implied_in.ensures.marks_after, c.implied_in.ensures.table_after)) in record { value = w.0; result_value = w.1.0; marks_after = w.1.1.0; table_after = w.1.1.1 }
+returns-in-Accepted c = let e = c.implied_in.ensures in
+    let w = numbered implied_number (implied_number-is _ _) e.value in
+    record { value = w.0; result_value = w.1; marks_after = e.marks_after; table_after = e.table_after }
