@@ -49,12 +49,15 @@ place_from-requires t c =
     let u = l.invariant.1 in
     let r = c.next_fit-c.result in (
       omega (arith, u.some_left),
-      (c.requires.setting, (
+      (
+        c.requires.setting,
+        (
           omega (arith, u.some_left),
           omega (arith, length-set l.seats c.args.k r, u.room),
           seated-next l.seats c.args.k r (omega (arith, u.some_left, u.room)) (omega (arith, c.if-count-c.false, c.requires.setting.problem.candidates_few))
               u.seated,
-        )),
+        ),
+      ),
     )
 
 pub shape_of-seats-then-place_from : goal.shape_of-seats-then-place_from
