@@ -210,7 +210,7 @@ pub fn right(
     placement: &[u8],
 ) -> bool {
     let mut types = grid_room();
-    let n = types::fill_types(b, s, marks, &mut types);
+    let n = term_types::fill_types(b, s, marks, &mut types);
     if n != survivors {
         return false;
     }
