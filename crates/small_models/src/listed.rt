@@ -4,7 +4,7 @@ ghost use Rattle.std.specs.Prelude.{◌≡◌, length};
 
 use crate::shape::{Shape, cell, is_quantified, number, pair, term};
 use crate::term_grades::link_at;
-use crate::{meets, term_grades, types};
+use crate::{meets, term_grades, term_types};
 use reports::numbers::{larger, less, smaller, times};
 use reports::text::{byte, same_bytes, set};
 use std::num::wrapping_add_usize;

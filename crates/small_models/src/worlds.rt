@@ -1,6 +1,6 @@
 // Tries every interpretation of one, two and, where they are few, three elements.
 use crate::shape::{Shape, cell};
-use crate::{meets, term_grades, types};
+use crate::{meets, term_grades, term_types};
 use reports::numbers::times;
 use reports::text::{byte, set};
 use std::num::wrapping_add_u64;
