@@ -4,7 +4,7 @@
 -- Assumes nothing.
 use Rattle.std.specs.Prelude.{◌≡◌, refl, ◌↔◌, ◌⊎◌, List, [], ◌∷◌, map, ℕ, ◌+◌, ◌*◌, ◌≤◌, ◌<◌, length, get_or, drop}
 use Rattle.std.proofs.Common.{sym, ap, ◌∙◌}
-use Rattle.std.proofs.Math.Logic.{Iff·trans}
+use mathlib.Core.Logic.Iff
 use Rattle.std.proofs.Math.Option.{none, some}
 use Rattle.chain.specs.Lists.{Mem}
 use Rattle.chain.specs.Questions.{Question, first_no}
@@ -113,7 +113,7 @@ module _ (b marks table : List ℕ) (ok : first_no (implied_questions b (length 
 
   -- "1 if left is never greater than right in any finite interpretation that meets the rules, else 0"
   pub byte-is_1_if_never_greater : (i j : ℕ) → i < width → j < width → (byte i j ≡ 1) ↔ NeverGreater i j
-  byte-is_1_if_never_greater i j h l = Iff·trans (byte-says i j h l) (Subsumption.implied_by_survivors B valid i j h l)
+  byte-is_1_if_never_greater i j h l = Iff.trans (byte-says i j h l) (Subsumption.implied_by_survivors B valid i j h l)
 
   pub else_byte-is_0 : (i j : ℕ) → i < width → j < width → (byte i j ≡ 0) ↔ (¬ NeverGreater i j)
   else_byte-is_0 i j h l =

@@ -4,7 +4,7 @@ ghost use Rattle.std.specs.Prelude.{◌≡◌, length};
 
 use crate::shape::{Shape, cell, is_quantified, number, pair, term};
 use crate::term_grades::link_at;
-use crate::{meets, term_grades, types};
+use crate::{meets, term_grades, term_types};
 use reports::numbers::{larger, less, smaller, times};
 use reports::text::{byte, same_bytes, set};
 use std::num::wrapping_add_usize;
@@ -210,7 +210,7 @@ pub fn right(
     placement: &[u8],
 ) -> bool {
     let mut types = grid_room();
-    let n = types::fill_types(b, s, marks, &mut types);
+    let n = term_types::fill_types(b, s, marks, &mut types);
     if n != survivors {
         return false;
     }

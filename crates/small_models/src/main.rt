@@ -13,7 +13,7 @@ mod shape;
 mod shared;
 mod singles;
 mod term_grades;
-mod types;
+mod term_types;
 mod worlds;
 
 use decisions::Decision;

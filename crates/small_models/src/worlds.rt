@@ -1,6 +1,6 @@
 // Tries every interpretation of one, two and, where they are few, three elements.
 use crate::shape::{Shape, cell};
-use crate::{meets, term_grades, types};
+use crate::{meets, term_grades, term_types};
 use reports::numbers::times;
 use reports::text::{byte, set};
 use std::num::wrapping_add_u64;
@@ -69,7 +69,7 @@ fn power(levels: usize, digits: usize) -> usize {
 // Is the type of every element marked?
 fn all_marked(b: &[u8], s: Shape, n: usize, grid: &[u8], marks: &[u8]) -> bool {
     for e in 0..n {
-        if byte(marks, types::shown(b, s, grid, e)) != 1 {
+        if byte(marks, term_types::shown(b, s, grid, e)) != 1 {
             return false;
         }
     }
@@ -139,7 +139,7 @@ fn worlds(
 
 // Every interpretation of `n` elements, if they are few.
 fn sized(seen: Seen, b: &[u8], s: Shape, outcome: u8, marks: &[u8], n: usize) -> Seen {
-    let count = power(types::levels(s), digits(s, n));
+    let count = power(term_types::levels(s), digits(s, n));
     if MOST < count {
         return seen;
     }
