@@ -1,6 +1,6 @@
 -- `decider_tests::run` meets its contract. The loop keeps the length of `book`; the place rises with each line, and goes at most one past the text.
 -- Assumes nothing.
-use Rattle.std.proofs.Common.{◌≡◌, ◌+◌, ◌-◌, ◌≤◌, length, rules}
+use Rattle.std.proofs.Common.{◌≡◌, ◌+◌, ◌-◌, ◌≤◌, length}
 use Rattle.decider_tests.proofs.run.Given as goal
 
 abbrev pub invariant-loop-at : goal.invariant-loop-at

@@ -1,6 +1,6 @@
 -- `small_models::lines` meets its contract. The place rises with each line, and goes at most one past the text.
 -- Assumes nothing.
-use Rattle.std.proofs.Common.{◌+◌, ◌-◌, ◌≤◌, length, rules}
+use Rattle.std.proofs.Common.{◌+◌, ◌-◌, ◌≤◌, length}
 use Rattle.small_models.proofs.lines.Given as goal
 
 abbrev pub invariant-loop-at : goal.invariant-loop-at

@@ -1,6 +1,6 @@
 -- `decider_tests::runs::decide_by` is safe: the sections that opening gives are those of the book.
 -- Assumes nothing.
-use Rattle.std.proofs.Common.{sym, ◌∙◌, rules}
+use Rattle.std.proofs.Common.{sym}
 use Rattle.book.proofs.Opening.{opened_accepted}
 use Rattle.decider_tests.proofs.runs.decide_by.Goals as goal
 
