@@ -1,7 +1,6 @@
 -- `decide::main` meets its contract: only a book that opens is decided.
 -- Assumes nothing.
-use mathlib.Core.Path.{sym, ◌∙◌}
-use borrow.Author.Rules.{rules}
+use mathlib.Core.Path.{sym}
 use Rattle.book.proofs.Opening.{opened_accepted}
 use Rattle.decide.proofs.main.Goals as goal
 

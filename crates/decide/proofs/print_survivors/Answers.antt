@@ -4,7 +4,6 @@ use mathlib.Core.List.{List}
 use mathlib.Core.Path.{sym, subst}
 use Prim.Native.Nat.{ℕ, ◌≤◌}
 use native.Mathlib.Omega.{arith}
-use borrow.Author.Rules.{rules}
 use Rattle.book.proofs.Reading.{right-terms, right-few}
 use Rattle.book.proofs.Opening.{right-ordered}
 use Rattle.sections.specs.Terms.{term_count, TermsRight}

@@ -1,10 +1,6 @@
 -- `decide::print_types` meets its contract. Before each block of lines the candidates below `first` are done.
 -- Assumes nothing.
-use mathlib.Core.Path.{◌≡◌}
-use Prim.Native.Nat.{◌≤◌, ◌-◌}
 use native.Mathlib.Omega.{arith}
-use lib.ListN.{length}
-use borrow.Author.Rules.{rules}
 use Rattle.decide.proofs.print_types.Goals as goal
 
 pub type_lines-end-requires : goal.type_lines-end-requires

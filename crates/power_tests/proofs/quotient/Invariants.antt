@@ -1,6 +1,6 @@
 -- `power_tests::quotient` meets its contract. The counter of the loop stays within its bound.
 -- Assumes nothing.
-use Rattle.std.proofs.Common.{◌-◌, ◌≤◌, rules}
+use Rattle.std.proofs.Common.{◌-◌, ◌≤◌}
 use Rattle.power_tests.proofs.quotient.Given as goal
 
 abbrev pub invariant-loop-i : goal.invariant-loop-i

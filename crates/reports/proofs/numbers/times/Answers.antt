@@ -1,6 +1,6 @@
 -- `reports::numbers::times` meets its contract. The product is at most 65535 times the first number.
 -- Assumes nothing.
-use Rattle.std.proofs.Common.{mul-le-mul_left, arith, rules}
+use Rattle.std.proofs.Common.{mul-le-mul_left, arith}
 use Rattle.reports.proofs.numbers.times.Goals as goal
 
 pub overflow_mul-result : goal.overflow_mul-result

@@ -1,6 +1,6 @@
 -- `reports::text::until` meets its contract. The place rises, and stays within the text.
 -- Assumes nothing.
-use Rattle.std.proofs.Common.{◌-◌, ◌≤◌, length, rules}
+use Rattle.std.proofs.Common.{◌-◌, ◌≤◌, length}
 use Rattle.reports.proofs.text.until.Given as goal
 
 abbrev pub invariant-loop-at : goal.invariant-loop-at
