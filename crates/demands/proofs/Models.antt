@@ -13,7 +13,8 @@ use Rattle.decider.specs.Deciding.{Decidable, decision_of, outcome_in}
 use Rattle.decisions.specs.declared.Decision.TheVariants.{Decided}
 use Rattle.decider.proofs.Deciding.{decision_decided}
 use Rattle.demands.specs.Demand3.{outcome_1_holds_together, outcome_2_claims_fail, outcome_3_no_model}
-use Rattle.demands.specs.Readings.{Reading, link_reading, book_reading, Reads, readings, readings_on_file, printed, under_some, some_bottom}
+use Rattle.demands.specs.Readings.{Reading, link_reading, book_reading, Reads, readings, printed, under_some, some_bottom}
+use Rattle.demands.proofs.Readings.{readings_on_file}
 
 -- buffers that suffice
 abbrev zeros : ℕ → List ℕ

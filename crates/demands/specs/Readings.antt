@@ -136,60 +136,6 @@ readings =
     -- A at most 1: outcome 2; at most 2: outcome 1
     ∷ book_reading (loop 1) 2 9 nine [] ∷ book_reading (loop 2) 1 9 nine (0 ∷ 8 ∷ []) ∷ []
 
--- what it comes to in the definitions, which compute
-abbrev Computes : Reading → Type 0
-Computes (link_reading b c d l) = link_answer b 0 c d ≡ Grade l
-Computes (book_reading b o k ms ps) =
-    (first_no (candidate_questions b) ≡ none) × (candidates (book_of b).grading ≡ length ms) × (decision (book_of b) ≡ Decided o k)
-    × ((marks : List ℕ) → marked_in (book_of b) marks ≡ ms ++ drop (length ms) marks)
-    × ((buffer : List ℕ) → placed_in (placement (book_of b)) buffer ≡ ps ++ drop (length ps) buffer)
-
-computed : (q : Reading) → Computes q → Reads q
-computed (link_reading b c d l) e = e
-computed (book_reading b o k ms ps) (asked, count, answer, marks-are, placement-is) = λ marks buffer h g.
-    let d : Decidable b (length marks) (length buffer) = Deciding.decide_none b (length marks) (length buffer) asked (rw count h) g in
-    (Left.decided_is (book_of b) _ d ∙ answer, Marks.marks-are (book_of b) _ marks d ∙ marks-are marks, Left.placement-is (book_of b) _ d buffer ∙ placement-is buffer)
-
-computing : Each Computes readings
-unfolding graded_by first_no says length_right? edition_right? steps_right? counts_right? laid_out? terms_right? rules_right? memberships_right? links_right? pairs_right? few_candidates?
-    book_of by_edition sections_of word_at terms_of rules_of pairs_of memberships_of members_of links_of table outcome placement placement_among individuals highest try_each holds? survivors
-    settle fits? from keep each? any? marks_of candidates places link_between grade_in value deep place_number home home_as bearer first opens? rank digit flat_map
-computing = (
-  refl,
-  (
-    refl,
-    (
-      refl,
-      (
-        refl,
-        (
-          (refl, refl, refl, λ _. refl, λ _. refl),
-          (
-            (refl, refl, refl, λ _. refl, λ _. refl),
-            (
-              (refl, refl, refl, λ _. refl, λ _. refl),
-              (
-                (refl, refl, refl, λ _. refl, λ _. refl),
-                (
-                  (refl, refl, refl, λ _. refl, λ _. refl),
-                  (
-                    (refl, refl, refl, λ _. refl, λ _. refl),
-                    ((refl, refl, refl, λ _. refl, λ _. refl), ((refl, refl, refl, λ _. refl, λ _. refl), ((refl, refl, refl, λ _. refl, λ _. refl), tt))),
-                  ),
-                ),
-              ),
-            ),
-          ),
-        ),
-      ),
-    ),
-  ),
-)
-
--- every reading is as document 01 has it
-pub readings_on_file : Each Reads readings
-readings_on_file = mem_each {P = Reads} readings (λ q m. computed q (each_mem Computes readings computing q m))
-
 -- ---- readings of document 02, P1, of our own
 
 -- Edition 2, N 1: a name A and "all r1 A". Individual 0 has "all r1 A" at least 1 and a link of role 0, at least 1, to individual 1, which has A at
@@ -218,28 +164,6 @@ ranked_readings =
     -- through a role that no term uses, and in a circle of three
     ∷ unseated 2 (0 ∷ 2 ∷ 2 ∷ 1 ∷ []) ∷ unseated 3 (0 ∷ 2 ∷ 2 ∷ 1 ∷ 1 ∷ 0 ∷ []) ∷ []
 
-ranked_computing : Each Computes ranked_readings
-unfolding first_no says length_right? edition_right? steps_right? counts_right? laid_out? terms_right? rules_right? memberships_right? links_right? pairs_right? few_candidates?
-    book_of by_edition sections_of word_at terms_of rules_of pairs_of memberships_of members_of links_of table outcome placement placement_among individuals highest try_each holds? survivors
-    settle fits? from keep each? any? marks_of candidates places link_between grade_in value deep place_number home home_as bearer first opens? rank digit flat_map
-    hierarchy role_pairs upward?
-ranked_computing = (
-  (refl, refl, refl, λ _. refl, λ _. refl),
-  (
-    (refl, refl, refl, λ _. refl, λ _. refl),
-    (
-      (refl, refl, refl, λ _. refl, λ _. refl),
-      (
-        (refl, refl, refl, λ _. refl, λ _. refl),
-        ((refl, refl, refl, λ _. refl, λ _. refl), ((refl, refl, refl, λ _. refl, λ _. refl), tt)),
-      ),
-    ),
-  ),
-)
-
-pub readings_of_pairs : Each Reads ranked_readings
-readings_of_pairs = mem_each {P = Reads} ranked_readings (λ q m. computed q (each_mem Computes ranked_readings ranked_computing q m))
-
 -- ---- readings of document 02, P2, of our own
 
 -- N 1, a name A: two membership claims about it, of these bytes but for the term
@@ -259,18 +183,6 @@ set_readings =
     ∷ book_reading (batch 0x03 3 0 0x04 2 1) 1 2 (1 ∷ 1 ∷ []) (0 ∷ 0 ∷ 0 ∷ 0 ∷ 0 ∷ 1 ∷ [])
     -- empty sets claim nothing, not even at most 0 and at least 1, and there is no individual
     ∷ book_reading (batch 0x00 3 0 0x00 2 1) 1 2 (1 ∷ 1 ∷ []) [] ∷ []
-
-set_computing : Each Computes set_readings
-unfolding first_no says length_right? edition_right? steps_right? counts_right? laid_out? terms_right? rules_right? memberships_right? links_right? pairs_right? few_candidates?
-    book_of by_edition sections_of word_at terms_of rules_of pairs_of memberships_of members_of links_of table outcome placement placement_among individuals highest try_each holds? survivors
-    settle fits? from keep each? any? marks_of candidates places link_between grade_in value deep place_number home home_as bearer first opens? rank digit flat_map
-set_computing = (
-  (refl, refl, refl, λ _. refl, λ _. refl),
-  ((refl, refl, refl, λ _. refl, λ _. refl), ((refl, refl, refl, λ _. refl, λ _. refl), ((refl, refl, refl, λ _. refl, λ _. refl), tt))),
-)
-
-pub readings_of_sets : Each Reads set_readings
-readings_of_sets = mem_each {P = Reads} set_readings (λ q m. computed q (each_mem Computes set_readings set_computing q m))
 
 -- ---- readings of document 02, P5, of our own
 
@@ -313,15 +225,3 @@ name_readings =
     ∷ book_reading clashing 2 2 (1 ∷ 1 ∷ []) []
     -- "some" is digit 0, A digit 1: placed at 2
     ∷ book_reading behind 1 4 (1 ∷ 1 ∷ 1 ∷ 1 ∷ []) (0 ∷ 2 ∷ []) ∷ []
-
-name_computing : Each Computes name_readings
-unfolding first_no says length_right? edition_right? steps_right? counts_right? laid_out? terms_right? rules_right? memberships_right? links_right? pairs_right? few_candidates?
-    book_of by_edition sections_of word_at terms_of rules_of pairs_of memberships_of members_of links_of table outcome placement placement_among individuals highest try_each holds? survivors
-    settle fits? from keep each? any? marks_of candidates places link_between grade_in value deep place_number home home_as bearer first opens? rank digit flat_map
-name_computing = (
-  (refl, refl, refl, λ _. refl, λ _. refl),
-  ((refl, refl, refl, λ _. refl, λ _. refl), ((refl, refl, refl, λ _. refl, λ _. refl), ((refl, refl, refl, λ _. refl, λ _. refl), tt))),
-)
-
-pub readings_of_names : Each Reads name_readings
-readings_of_names = mem_each {P = Reads} name_readings (λ q m. computed q (each_mem Computes name_readings name_computing q m))
