@@ -17,7 +17,8 @@ use Rattle.chain.proofs.Blocks.{blocks_whole}
 use Rattle.semantics.specs.Books.{at_least, at_most, MembershipClaim, LinkClaim, membership_individuals, link_individuals, link_roles}
 use Rattle.encoding.specs.Bits.{Bit, bits_of}
 use Rattle.encoding.proofs.Bits.{bits_mem}
-use Rattle.claims.specs.Claims.{sense_of, members_of, claim_count, membership_record, membership_at, memberships_of, MembershipsRight, link_at, links_of, LinksRight}
+use Rattle.claims.specs.Claims.{sense_of, members_of, claim_count, membership_record, membership_at, memberships_of, MembershipsRight, link_at, links_of, LinkRight, LinksRight}
+use Rattle.claims.specs.declared.LinkRecord.{LinkRecord}
 
 -- ---- a sense, by its byte
 
@@ -103,3 +104,7 @@ individuals_few N n ms ls m k = omega (
 pub link_roles-few : (N : ℕ) (ls : List ℕ) → LinksRight ls N → highest link_roles (links_of ls) ≤ 8
 unfolding links_of
 link_roles-few N ls k = highest-most link_roles (link_at ls) (claim_count ls) 8 (λ i l. omega (arith, (k i l).0))
+
+-- a link claim may have the highest grade
+pub link_right-highest : (N : ℕ) (q : LinkRecord) → q.role < 8 → q.source < 8 → q.target < 8 → q.grade ≡ N → LinkRight N q
+link_right-highest N q r s t e = (r, (s, (t, omega arith)))
