@@ -2,44 +2,31 @@
 
 #![tactic(auto)]
 
-ghost use Rattle.std.specs.Prelude.{◌≡◌, ◌+◌, ◌*◌, ◌<◌, ◌≤◌, length};
-ghost use Rattle.network.specs.Constraints.{constraint_count, AllRight};
-ghost use Rattle.domains.specs.Gaps.{Gaps};
-ghost use Rattle.domains.specs.Consistent.{Problem, Graded};
-ghost use Rattle.supports.specs.Arcs.{SupportedBy, SupportedTo, ArcConsistent, Pruned, Revised, RevisedBy};
+ghost use Rattle.std.specs.Prelude.{◌≡◌, ◌<◌, ◌≤◌, length};
+ghost use Rattle.supports.specs.Arcs.{Domains, SupportedBy, SupportedTo, ArcConsistent, Pruned, Revised, RevisedBy};
 
-use domains::{leap, note_gaps};
-use gradings::Logic;
-use network::between;
+use boxes::Bound;
+use domains::{Instance, leap, note_gaps};
 use supports::support;
 
-// Takes from individual `j` the candidates that have no support by `i`, under the constraints between the two, forth and back. Was one taken
-// away?
+// Takes from individual `j` the candidates that have no support by `i`. Was one taken away?
 fn revise(
-    logic: Logic,
-    forth: &[u8],
-    back: &[u8],
-    columns: usize,
-    count: usize,
-    individuals: usize,
-    rows: &[u8],
+    instance: &Instance<'_>,
     table: &mut [u8],
-    bounds: &mut [u8],
+    bounds: &mut [Bound],
     j: usize,
     i: usize,
 ) -> bool
-    requires all_right { AllRight logic columns forth.now × AllRight logic columns back.now × (constraint_count forth.now ≤ 64)
-        × (constraint_count back.now ≤ 64) × (columns ≤ 32) }
-    requires j_lt_individuals { (j < individuals) × (i < individuals) × (individuals ≤ 8) × (¬ (i ≡ j)) × (count ≤ 16384) }
-    requires in_bounds { (131072 ≤ length table.old) × (524288 ≤ length rows.now) × (384 ≤ length bounds.old) × Gaps table.old individuals count
-        × Graded logic columns count individuals rows.now table.old }
-    ensures revised_by { RevisedBy logic forth.now back.now count rows.now j i count result table.old table.new }
-    ensures gaps { Gaps table.new individuals count }
+    requires domains { Domains instance.now table.old }
+    requires j_lt_individuals { (j < instance.now.individuals) × (i < instance.now.individuals) × (¬ (i ≡ j)) × (128 ≤ length bounds.old) }
+    ensures revised_by { RevisedBy instance.now j i instance.now.count result table.old table.new }
+    ensures domains_2 { Domains instance.now table.new }
 {
     let mut changed = false;
     let mut hint = 0;
     let mut next = 0;
-    while next < count {
+    // A while: it leaps over gaps, so it counts nothing.
+    while next < instance.count {
         let c = next;
         let gap = leap(table, j, c);
         if 0 < gap {
@@ -47,196 +34,83 @@ fn revise(
             continue;
         }
         next += 1;
-        let d = support(
-            logic,
-            forth,
-            back,
-            columns,
-            count,
-            individuals,
-            table,
-            rows,
-            bounds,
-            i,
-            c,
-            hint,
-        );
-        if d < count {
-            hint = d;
-            continue;
+        match support(instance, table, bounds, j, i, c, hint) {
+            Some(d) => hint = d,
+            None => {
+                table[16384 * j + c] = 0;
+                changed = true;
+            }
         }
-        table[16384 * j + c] = 0;
-        changed = true;
     }
     changed
 }
 
-// The same by the network, where there are constraints between the two. The gaps are noted anew.
+// The same, where there are constraints between the two. The gaps are noted anew.
 fn revise_by(
-    logic: Logic,
-    net: &[u8],
-    ends: &[u16],
-    columns: usize,
-    count: usize,
-    individuals: usize,
-    rows: &[u8],
+    instance: &Instance<'_>,
     table: &mut [u8],
-    bounds: &mut [u8],
+    bounds: &mut [Bound],
     j: usize,
     i: usize,
 ) -> bool
-    requires problem { Problem logic columns net.now ends.now count individuals rows.now }
-    requires j_lt_individuals { (j < individuals) × (i < individuals) × (¬ (i ≡ j)) × (131072 ≤ length table.old) × (384 ≤ length bounds.old) }
-    requires gaps { Gaps table.old individuals count × Graded logic columns count individuals rows.now table.old }
-    ensures revised { Revised logic net.now ends.now count rows.now individuals
-        (SupportedBy logic net.now ends.now count rows.now j i) result table.old table.new }
-    ensures gaps_2 { Gaps table.new individuals count }
+    requires domains { Domains instance.now table.old }
+    requires j_lt_individuals { (j < instance.now.individuals) × (i < instance.now.individuals) × (¬ (i ≡ j)) × (128 ≤ length bounds.old) }
+    ensures revised { Revised instance.now (SupportedBy instance.now j i) result table.old table.new }
+    ensures domains_2 { Domains instance.now table.new }
 {
-    let forth = between(net, ends, j, i);
-    let back = between(net, ends, i, j);
-    if forth.len() == 0 {
-        if back.len() == 0 {
-            return false;
-        }
-    }
-    if !revise(
-        logic,
-        forth,
-        back,
-        columns,
-        count,
-        individuals,
-        rows,
-        table,
-        bounds,
-        j,
-        i,
-    ) {
+    let network = &instance.network;
+    if network.between(j, i).is_empty() && network.between(i, j).is_empty() {
         return false;
     }
-    note_gaps(table, count, j);
+    if !revise(instance, table, bounds, j, i) {
+        return false;
+    }
+    note_gaps(table, instance.count, j);
     true
 }
 
 // Revises individual `j` by every other one. Was a candidate taken away?
-fn revise_all(
-    logic: Logic,
-    net: &[u8],
-    ends: &[u16],
-    columns: usize,
-    count: usize,
-    individuals: usize,
-    rows: &[u8],
-    table: &mut [u8],
-    bounds: &mut [u8],
-    j: usize,
-) -> bool
-    requires problem { Problem logic columns net.now ends.now count individuals rows.now }
-    requires j_lt_individuals { (j < individuals) × (131072 ≤ length table.old) × (384 ≤ length bounds.old) }
-    requires gaps { Gaps table.old individuals count × Graded logic columns count individuals rows.now table.old }
-    ensures revised { Revised logic net.now ends.now count rows.now individuals
-        (SupportedTo logic net.now ends.now count rows.now j individuals) result table.old table.new }
-    ensures gaps_2 { Gaps table.new individuals count }
+fn revise_all(instance: &Instance<'_>, table: &mut [u8], bounds: &mut [Bound], j: usize) -> bool
+    requires domains { Domains instance.now table.old }
+    requires j_lt_individuals { (j < instance.now.individuals) × (128 ≤ length bounds.old) }
+    ensures revised { Revised instance.now (SupportedTo instance.now j instance.now.individuals) result table.old table.new }
+    ensures domains_2 { Domains instance.now table.new }
 {
     let mut changed = false;
-    let mut next = 0;
-    while next < individuals {
-        let i = next;
-        next += 1;
+    for i in 0..instance.individuals {
         if i == j {
             continue;
         }
-        if revise_by(
-            logic,
-            net,
-            ends,
-            columns,
-            count,
-            individuals,
-            rows,
-            table,
-            bounds,
-            j,
-            i,
-        ) {
-            changed = true;
-        }
+        changed |= revise_by(instance, table, bounds, j, i);
     }
     changed
 }
 
 // One pass over the individuals. Was a candidate taken away?
-fn pass(
-    logic: Logic,
-    net: &[u8],
-    ends: &[u16],
-    columns: usize,
-    count: usize,
-    individuals: usize,
-    rows: &[u8],
-    table: &mut [u8],
-    bounds: &mut [u8],
-) -> bool
-    requires problem { Problem logic columns net.now ends.now count individuals rows.now }
-    requires in_bounds { (131072 ≤ length table.old) × (384 ≤ length bounds.old) }
-    requires gaps { Gaps table.old individuals count × Graded logic columns count individuals rows.now table.old }
-    ensures revised { Revised logic net.now ends.now count rows.now individuals
-        (ArcConsistent logic net.now ends.now count rows.now individuals) result table.old table.new }
-    ensures gaps_2 { Gaps table.new individuals count }
+fn pass(instance: &Instance<'_>, table: &mut [u8], bounds: &mut [Bound]) -> bool
+    requires domains { Domains instance.now table.old }
+    requires bounds_long { 128 ≤ length bounds.old }
+    ensures revised { Revised instance.now (ArcConsistent instance.now) result table.old table.new }
+    ensures domains_2 { Domains instance.now table.new }
 {
     let mut changed = false;
-    let mut j = 0;
-    while j < individuals {
-        if revise_all(
-            logic,
-            net,
-            ends,
-            columns,
-            count,
-            individuals,
-            rows,
-            table,
-            bounds,
-            j,
-        ) {
-            changed = true;
-        }
-        j += 1;
+    for j in 0..instance.individuals {
+        changed |= revise_all(instance, table, bounds, j);
     }
     changed
 }
 
 // Takes candidates away that belong to no consistent placement, until the table is arc consistent.
-pub fn prune(
-    logic: Logic,
-    net: &[u8],
-    ends: &[u16],
-    columns: usize,
-    count: usize,
-    individuals: usize,
-    rows: &[u8],
-    table: &mut [u8],
-)
-    requires problem { Problem logic columns net.now ends.now count individuals rows.now }
-    requires in_bounds { 131072 ≤ length table.old }
-    requires gaps { Gaps table.old individuals count × Graded logic columns count individuals rows.now table.old }
-    ensures pruned { Pruned logic net.now ends.now count rows.now individuals table.old table.new }
-    ensures arc_consistent { ArcConsistent logic net.now ends.now count rows.now individuals table.new }
-    ensures gaps_2 { Gaps table.new individuals count }
+pub fn prune(instance: &Instance<'_>, table: &mut [u8])
+    requires { Domains instance.now table.old }
+    ensures pruned { Pruned instance.now table.old table.new }
+    ensures arc_consistent { ArcConsistent instance.now table.new }
+    ensures domains { Domains instance.now table.new }
 {
-    let mut bounds = [0u8; 384];
+    let mut bounds = [Bound::UNUSED; 128];
+    // A loop: how many passes there will be is not known before.
     loop {
-        if !pass(
-            logic,
-            net,
-            ends,
-            columns,
-            count,
-            individuals,
-            rows,
-            table,
-            &mut bounds,
-        ) {
+        if !pass(instance, table, &mut bounds) {
             return;
         }
     }

@@ -12,6 +12,7 @@ ghost use Rattle.asking.specs.Asking.{grade_answer, link_answer, grade_questions
 
 use book::Opened;
 use counter::Counted;
+use grades::Grader;
 use layout::Sections;
 
 // The number of the first check that says no, or a grade.
@@ -35,7 +36,7 @@ fn grade_counted(b: &[u8], s: Sections, k: u64, c: usize, i: usize) -> Answer
         return Answer::Refused(21);
     }
     let logic = book::logic_in(b, s);
-    Answer::Grade(grades::grade_of(layout::terms_in(b, s), logic, c, i))
+    Answer::Grade(Grader::new(layout::terms_in(b, s), logic).grade_of(c, i))
 }
 
 // On an accepted book whose sections are `s`: check 10 is made, and none before.
@@ -77,7 +78,8 @@ fn link_counted(b: &[u8], s: Sections, k: u64, role: u8, c: usize, d: usize) -> 
         return Answer::Refused(21);
     }
     let logic = book::logic_in(b, s);
-    Answer::Grade(row_links::link_of(layout::terms_in(b, s), logic, role, c, d))
+    let grader = Grader::new(layout::terms_in(b, s), logic);
+    Answer::Grade(row_links::link_of(&grader, role, c, d))
 }
 
 // On an accepted book whose sections are `s`: check 10 is made, and none before.

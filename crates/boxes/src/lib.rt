@@ -2,11 +2,10 @@
 
 #![tactic(auto)]
 
-ghost use Rattle.std.specs.Prelude.{ℕ, ◌+◌, ◌*◌, ◌<◌, ◌≤◌, length};
+ghost use Rattle.std.specs.Prelude.{ℕ, ◌+◌, ◌<◌, ◌≤◌, length};
 ghost use Rattle.chain.specs.Decisions.{Tells};
-ghost use Rattle.boxes.specs.Boxes.{Within, bound_count, bound_at, Inside, Narrowed};
+ghost use Rattle.boxes.specs.Boxes.{Within, bound_at, Inside, Narrowed};
 
-use encoding::wide;
 use gradings::Logic;
 
 // The grades that a row may have in a column: from `low` to `high`.
@@ -17,38 +16,38 @@ pub struct Bound {
     pub high: u8,
 }
 
+impl Bound {
+    // What stands in an array where no bound is put yet.
+    pub const UNUSED: Bound = Bound {
+        column: 0,
+        low: 0,
+        high: 0,
+    };
+}
+
 // Adds a bound as number `m`, if it leaves anything of the chain out. The number of bounds.
-pub fn put_bound(logic: Logic, columns: usize, b: Bound, bounds: &mut [u8], m: usize) -> usize
-    requires { (b.column < columns) × (3 * m + 3 ≤ length bounds.old) }
+pub fn put_bound(logic: Logic, columns: usize, b: Bound, bounds: &mut [Bound], m: usize) -> usize
+    requires { (b.column < columns) × (m < length bounds.old) }
     ensures narrowed { Narrowed logic columns (Within b) bounds.old m bounds.new result }
     ensures upper_bound { result ≤ m + 1 }
 {
-    if b.low == 0 {
-        if logic.steps <= b.high {
-            return m;
-        }
+    if b.low == 0 && logic.steps <= b.high {
+        return m;
     }
-    bounds[3 * m] = b.column;
-    bounds[3 * m + 1] = b.low;
-    bounds[3 * m + 2] = b.high;
+    bounds[m] = b;
     m + 1
 }
 
 // Does the row lie in the box? The first bound that it passes decides.
-pub fn inside(bounds: &[u8], row: &[u8]) -> bool
-    requires { (x : ℕ) → x < bound_count bounds.now → (bound_at bounds.now x).column < length row.now }
+pub fn inside(bounds: &[Bound], row: &[u8]) -> bool
+    requires { (x : ℕ) → x < length bounds.now → (bound_at bounds.now x).column < length row.now }
     ensures { Tells result (Inside bounds.now row.now) }
 {
-    let mut at = 0;
-    while 2 < bounds.len() - at {
-        let grade = row[wide(bounds[at])];
-        if grade < bounds[at + 1] {
+    for b in bounds {
+        let grade = row[usize::from(b.column)];
+        if grade < b.low || b.high < grade {
             return false;
         }
-        if bounds[at + 2] < grade {
-            return false;
-        }
-        at += 3;
     }
     true
 }

@@ -2,6 +2,7 @@ pub mod Decisions
 pub mod Questions
 pub mod Answers
 pub mod Search
+pub mod Ranges
 pub mod Lists
 pub mod Blocks
 pub mod Digits

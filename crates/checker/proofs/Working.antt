@@ -38,8 +38,9 @@ use Rattle.sheets.specs.declared.Sheet.TheVariants.{Refused as Unfit, Accepted a
 use Rattle.sheets.proofs.Opening.{opened_right, opened_refused as sheet-refused, right-none, length-names, length-links, length-individuals}
 use Rattle.sheets.proofs.Reading.{everywhere, sheet-is}
 use Rattle.columns.specs.Columns.{rows_of}
+use Rattle.columns.specs.declared.Columns.{Columns}
 use Rattle.columns.specs.Workable.{Workable, WorkedAll}
-use Rattle.columns.proofs.Columns.{rows_grid}
+use Rattle.columns.proofs.Rows.{rows_grid}
 use Rattle.verdicts.specs.Verdicts.{verdict_in, Covered}
 use Rattle.verdicts.proofs.Verdicts.{verdict_in_lem, covered}
 use Rattle.checker.specs.Fitting.{SheetFits, Filled}
@@ -122,7 +123,7 @@ module _ (b t : List ℕ) (s : Sections) (ok : Right b s) (p : Shape) (fits : Sh
     pub size_few : p.elements * k ≤ 4096
     size_few = rw counted (mul-le-mul fits.head_right.1.1.1.1.0 (right-few b s ok))
 
-    pub fits_grid : (v : List ℕ) → Filled b t v → rows_of v k p.elements ≡ grid_of (book_of b).grading (sheet_of t)
+    pub fits_grid : (v : Columns) → Filled b t v → rows_of v k p.elements ≡ grid_of (book_of b).grading (sheet_of t)
     unfolding Filled
     fits_grid v holds =
         ap₂ (rows_of v) (counted ∙ sym (right-length b s ok)) (ap (λ (I : Interpretation). I.size) (sheet-is t p _ _ _ _ fits))
@@ -146,26 +147,25 @@ module _ (b t : List ℕ) (s : Sections) (ok : Right b s) (p : Shape) (fits : Sh
           roles_counted = omega (arith, k.2, fits.head_right.1.1.1.1.1.1.0);
         })
 
-    pub fits_filled : (v : List ℕ) → WorkedAll ts lg p.elements p.names (name_bytes t p) (sheetLinks t p) v → Filled b t v
+    pub fits_filled : (v : Columns) → WorkedAll ts lg p.elements p.names (name_bytes t p) (sheetLinks t p) v → Filled b t v
     unfolding Filled
     fits_filled v h = rw (← is, ← are, ← sheet-is t p _ _ _ _ fits) (h (individual_bytes t p))
 
   -- by the sections of rules, pairs and claims, and by columns that hold the grades
-  module _ (rs ps ms qs v : List ℕ) (rules : rs ≡ rule_bytes b s) (pairs : ps ≡ pair_bytes b s) (memberships : ms ≡ membership_bytes b s)
+  module _ (rs ps ms qs : List ℕ) (rules : rs ≡ rule_bytes b s) (pairs : ps ≡ pair_bytes b s) (memberships : ms ≡ membership_bytes b s)
       (links : qs ≡ link_bytes b s) where
-    pub fits_covered : 4096 ≤ length v → Covered rs ps ms qs v p.elements (sheetLinks t p) (individual_bytes t p)
-    fits_covered h =
+    pub fits_covered : Covered rs ps ms qs p.elements (sheetLinks t p) (individual_bytes t p)
+    fits_covered =
         let k = right_counts b s ok in
         rw (rules, pairs, memberships, links)
-        (covered _ _ _ _ v _ _ _ s.steps (terms_in s) p.roles fits.head_right.1.1.1.1.0 fits.entries_right.1.1 ok.rules_right ok.memberships_right
-        (omega (arith, right-few b s ok))
+        (covered _ _ _ _ _ _ _ s.steps (terms_in s) p.roles ok.rules_right ok.memberships_right (omega (arith, right-few b s ok))
         (omega (arith, k.3, fits.head_right.1.1.1.1.1.1.1, length-individuals t p _ _ _ _ fits))
         (omega (arith, k.2, fits.head_right.1.1.1.1.1.1.0))
         (omega (arith, length-links t p _ _ _ _ fits)))
 
-    pub fits_verdict : Filled b t v → verdict_in rs ps ms qs v p.elements (sheetLinks t p) (individual_bytes t p) ≡ verdict_of (book_of b) (sheet_of t)
+    pub fits_verdict : (v : Columns) → Filled b t v → verdict_in rs ps ms qs v p.elements (sheetLinks t p) (individual_bytes t p) ≡ verdict_of (book_of b) (sheet_of t)
     unfolding Filled
-    fits_verdict holds =
+    fits_verdict v holds =
         rw (rules, pairs, memberships, links, ← right-book b s ok, ← sheet-is t p _ _ _ _ fits)
         (verdict_in_lem (book_at b s).grading _ _ _ _ _ p.names (name_bytes t p) _ _ v (right_valid b s ok) fits.head_right.1.1.1.0 fits.entries_right.1.1
         (rw (← right-book b s ok, ← sheet-is t p _ _ _ _ fits) at holds))

@@ -7,11 +7,12 @@ use Rattle.sheets.specs.Opening.{SheetRight}
 use Rattle.sheets.specs.Reading.{sheet_of}
 use Rattle.shapes.specs.declared.Shape.{Shape}
 use Rattle.columns.specs.Columns.{HoldsGrades}
+use Rattle.columns.specs.declared.Columns.{Columns}
 
 -- what 13 to 15 say yes to, by the book's N, A, R and I: the sheet's bytes t have the shape p
 abbrev pub SheetFits : (b t : List ℕ) → Shape → Type 0
 SheetFits b t p = SheetRight t p (book_of b).grading.steps (name_count (book_of b)) (role_count (book_of b)) (individuals (book_of b))
 
 -- the columns v hold the grades of the terms of the book b at the elements of the sheet t
-unfoldable pub Filled : (b t v : List ℕ) → Type 0
+unfoldable pub Filled : (b t : List ℕ) → Columns → Type 0
 Filled b t v = HoldsGrades (book_of b).grading (sheet_of t) v

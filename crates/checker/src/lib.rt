@@ -14,6 +14,9 @@ ghost use Rattle.checker.specs.Working.{grid_size, worked_of, grid_after, work_q
 ghost use Rattle.checker.specs.Fitting.{SheetFits, Filled};
 
 use book::Opened;
+use cells::Frame;
+use columns::Columns;
+use grids::Source;
 use layout::Sections;
 use shapes::Shape;
 use sheets::Sheet;
@@ -26,47 +29,48 @@ pub enum Worked {
     Says(Verdict),
 }
 
-// The grades of all terms at all elements, into the columns `values`.
-fn fill_values(b: &[u8], s: Sections, sheet: &[u8], p: Shape, values: &mut [u8])
+// The grades of all terms at all elements.
+fn fill_columns(b: &[u8], s: Sections, sheet: &[u8], p: Shape, columns: &mut Columns)
     requires right { Right b.now s }
     requires sheet_fits { SheetFits b.now sheet.now p }
-    requires in_bounds { 4096 ≤ length values.old }
-    ensures { Filled b.now sheet.now values.new }
+    ensures { Filled b.now sheet.now columns.new }
 {
     let links = shapes::links_at(p);
     let individuals = shapes::individuals_at(p);
-    grids::work_out(
-        layout::terms_in(b, s),
-        book::logic_in(b, s),
-        p.elements,
-        p.names,
-        p.roles,
-        &sheet[12..links],
-        &sheet[links..individuals],
-        values,
-    );
+    let source = Source {
+        terms: layout::terms_in(b, s),
+        logic: book::logic_in(b, s),
+        elements: p.elements,
+        names: p.names,
+        roles: p.roles,
+        name_grades: &sheet[12..links],
+        links: &sheet[links..individuals],
+    };
+    source.work_out(columns);
 }
 
 // The verdict, by the grades in the columns.
-fn verdict_by(b: &[u8], s: Sections, sheet: &[u8], p: Shape, values: &[u8]) -> Verdict
+fn verdict_by(b: &[u8], s: Sections, sheet: &[u8], p: Shape, columns: &Columns) -> Verdict
     requires right { Right b.now s }
     requires sheet_fits { SheetFits b.now sheet.now p }
-    requires in_bounds { 4096 ≤ length values.now }
-    requires filled { Filled b.now sheet.now values.now }
+    requires filled { Filled b.now sheet.now columns.now }
     ensures { result ≡ verdict_of (book_of b.now) (sheet_of sheet.now) }
 {
     let links = shapes::links_at(p);
     let individuals = shapes::individuals_at(p);
     let end = shapes::end_at(p);
+    let frame = Frame {
+        elements: p.elements,
+        links: &sheet[links..individuals],
+        individuals: &sheet[individuals..end],
+    };
     verdicts::verdict(
         layout::rules_in(b, s),
         layout::pairs_in(b, s),
         layout::memberships_in(b, s),
         layout::links_in(b, s),
-        values,
-        p.elements,
-        &sheet[links..individuals],
-        &sheet[individuals..end],
+        columns,
+        &frame,
     )
 }
 
@@ -76,18 +80,18 @@ fn work_fitting(
     s: Sections,
     sheet: &[u8],
     p: Shape,
-    values: &mut [u8],
+    columns: &mut Columns,
     grid: &mut [u8],
 ) -> Verdict
     requires right { Right b.now s }
     requires sheet_fits { SheetFits b.now sheet.now p }
-    requires in_bounds { (4096 ≤ length values.old) × (grid_size b.now sheet.now ≤ length grid.old) }
+    requires in_bounds { grid_size b.now sheet.now ≤ length grid.old }
     ensures value { result ≡ verdict_of (book_of b.now) (sheet_of sheet.now) }
     ensures grid_after { grid.new ≡ grid_of (book_of b.now).grading (sheet_of sheet.now) ++ drop (grid_size b.now sheet.now) grid.old }
 {
-    fill_values(b, s, sheet, p, values);
-    grid_rows::write_grid(values, layout::count_terms(s), p.elements, grid);
-    verdict_by(b, s, sheet, p, values)
+    fill_columns(b, s, sheet, p, columns);
+    grid_rows::write_grid(columns, layout::count_terms(s), p.elements, grid);
+    verdict_by(b, s, sheet, p, columns)
 }
 
 fn work_shaped(b: &[u8], s: Sections, sheet: &[u8], p: Shape, grid: &mut [u8]) -> Worked
@@ -99,8 +103,10 @@ fn work_shaped(b: &[u8], s: Sections, sheet: &[u8], p: Shape, grid: &mut [u8]) -
     if grid.len() < p.elements * layout::count_terms(s) {
         return Worked::Refused(16);
     }
-    let mut values = [0u8; 4096];
-    Worked::Says(work_fitting(b, s, sheet, p, &mut values, grid))
+    let mut columns = Columns {
+        cells: [[0; 64]; 64],
+    };
+    Worked::Says(work_fitting(b, s, sheet, p, &mut columns, grid))
 }
 
 // On an accepted book whose sections are `s`: no check of the book is made.

@@ -9,8 +9,6 @@ ghost use Rattle.claims.specs.Pairs.{PairsRight};
 ghost use Rattle.claims.specs.Claims.{MembershipRight, MembershipsRight, LinkRight, LinksRight};
 
 use claims::{LinkRecord, MembershipRecord, SETS, link_claim_at, membership_at};
-use encoding::wide;
-
 // Individuals and roles are 0 to 7, senses 0 to 3.
 const INDIVIDUALS: u8 = 8;
 
@@ -24,25 +22,14 @@ fn rule_right(s: &[u8], i: usize, n: usize) -> bool
     requires { i < rule_count s.now }
     ensures { Tells result (RuleRight s.now n i) }
 {
-    if n <= wide(s[2 * i]) {
-        return false;
-    }
-    wide(s[2 * i + 1]) < n
+    usize::from(s[2 * i]) < n && usize::from(s[2 * i + 1]) < n
 }
 
 // Does every rule name two of `n` terms?
 pub fn rules_right(s: &[u8], n: usize) -> bool
     ensures { Tells result (RulesRight s.now n) }
 {
-    let count = s.len() / 2;
-    let mut i = 0;
-    while i < count {
-        if !rule_right(s, i, n) {
-            return false;
-        }
-        i += 1;
-    }
-    true
+    (0..s.len() / 2).all(|i| rule_right(s, i, n))
 }
 
 // ---- pairs of roles: two bytes each (check 22)
@@ -60,68 +47,37 @@ pub fn pairs_right(s: &[u8]) -> bool
 fn named_right(claim: MembershipRecord) -> bool
     ensures { Tells result (claim.sense < 2 → claim.named < 8) }
 {
-    if SETS <= claim.sense {
-        return true;
-    }
-    claim.named < INDIVIDUALS
+    SETS <= claim.sense || claim.named < INDIVIDUALS
 }
 
 fn membership_right(claim: MembershipRecord, steps: u8, n: usize) -> bool
     ensures { Tells result (MembershipRight steps n claim) }
 {
-    if !named_right(claim) {
-        return false;
-    }
-    if n <= wide(claim.term) {
-        return false;
-    }
-    if SENSES <= claim.sense {
-        return false;
-    }
-    claim.grade <= steps
+    named_right(claim)
+        && usize::from(claim.term) < n
+        && claim.sense < SENSES
+        && claim.grade <= steps
 }
 
 // Is every membership claim within its ranges, on `steps` steps and `n` terms?
 pub fn memberships_right(s: &[u8], steps: u8, n: usize) -> bool
     ensures { Tells result (MembershipsRight s.now steps n) }
 {
-    let count = s.len() / 4;
-    let mut i = 0;
-    while i < count {
-        if !membership_right(membership_at(s, i), steps, n) {
-            return false;
-        }
-        i += 1;
-    }
-    true
+    (0..s.len() / 4).all(|i| membership_right(membership_at(s, i), steps, n))
 }
 
 fn link_right(claim: LinkRecord, steps: u8) -> bool
     ensures { Tells result (LinkRight steps claim) }
 {
-    if ROLES <= claim.role {
-        return false;
-    }
-    if INDIVIDUALS <= claim.source {
-        return false;
-    }
-    if INDIVIDUALS <= claim.target {
-        return false;
-    }
-    claim.grade <= steps
+    claim.role < ROLES
+        && claim.source < INDIVIDUALS
+        && claim.target < INDIVIDUALS
+        && claim.grade <= steps
 }
 
 // Is every link claim within its ranges, on `steps` steps?
 pub fn links_right(s: &[u8], steps: u8) -> bool
     ensures { Tells result (LinksRight s.now steps) }
 {
-    let count = s.len() / 4;
-    let mut i = 0;
-    while i < count {
-        if !link_right(link_claim_at(s, i), steps) {
-            return false;
-        }
-        i += 1;
-    }
-    true
+    (0..s.len() / 4).all(|i| link_right(link_claim_at(s, i), steps))
 }

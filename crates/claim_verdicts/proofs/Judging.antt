@@ -1,15 +1,18 @@
 -- Laws for the functions: one claim judged by numbers that are read from the cells; the first that is broken of a section's claims.
 -- Assumes nothing.
-use mathlib.Core.Path.{◌≡◌, ap₂, ◌∙◌}
+use mathlib.Core.Bool.{Bool, true, false}
+use mathlib.Core.Path.{◌≡◌, subst, ◌∙◌}
 use mathlib.Core.List.{List}
-use Prim.Native.Nat.{ℕ, ◌≤◌, ◌<◌}
+use Prim.Native.Nat.{ℕ, ◌+◌, ◌-◌, ◌≤◌, ◌<◌}
 use native.Mathlib.Omega.{arith}
-use lib.Dec.{leb}
-use Rattle.chain.specs.Decisions.{Tells}
-use Rattle.chain.proofs.Decisions.{tells_map, tells_le}
+use lib.ListN.{length}
+use Rattle.std.specs.Bool.{MatchBool}
+use Rattle.std.specs.List.{range_with_len, AllWithin, HoldsAt}
+use Rattle.std.proofs.lemmas.Bool.{MatchBool-at_true, MatchBool-at_false}
+use Rattle.std.proofs.lemmas.List.FromFn.{length-range_with_len, get_or-range_with_len}
 use Rattle.chain.proofs.Lists.{each_mem, mem_each}
 use Rattle.semantics.specs.Interpretations.{Interpretation}
-use Rattle.semantics.specs.Books.{MembershipClaim, LinkClaim, membership_individuals, MeetsLink}
+use Rattle.semantics.specs.Books.{MembershipClaim, membership_individuals}
 use Rattle.semantics.proofs.Claims.{mentioned_below}
 use Rattle.claims.specs.Claims.{claim_count, membership_at, memberships_of, link_at, links_of}
 use Rattle.working.specs.Working.{first_broken, membership_verdict, link_verdict, memberships_verdict, links_verdict}
@@ -26,12 +29,18 @@ module _ (grade : (term element : ℕ) → ℕ) (element : (individual : ℕ) �
   pub members_unmet : (j : ℕ) → ¬ MeetsIfMentioned grade element q j → ¬ MembersMeet grade element q
   members_unmet j n h = n (λ m. each_mem (MeetsMember grade element q) q.members h j m)
 
--- a link claim, by the link x between e and f, which are its individuals' elements
-pub link_told : (I : Interpretation) (q : LinkClaim) (e f x : ℕ) → e ≡ I.element q.source → f ≡ I.element q.target → x ≡ I.links q.role e f
-    → Tells (leb q.grade x) (MeetsLink I q)
-link_told I q e f x i j g =
-    let same : x ≡ I.links q.role (I.element q.source) (I.element q.target) = g ∙ ap₂ (I.links q.role) i j in
-    tells_map _ (λ h. omega arith) (λ h. omega arith) (tells_le q.grade x)
+-- what `all` answers of the numbers from a on, below b
+pub range_told : (P : ℕ → Type 0) (a b : ℕ) (r : Bool)
+    → MatchBool r (AllWithin P (range_with_len a (b - a)) 0 (length (range_with_len a (b - a))))
+    ((k : ℕ) × (k < length (range_with_len a (b - a))) × HoldsAt (λ j. ¬ P j) (range_with_len a (b - a)) k)
+    → (r ≡ true → (j : ℕ) → a ≤ j → j < b → P j) × (r ≡ false → (j : ℕ) × ¬ P j)
+range_told P a b r m = (
+  λ t j lo hi. let e : a + (j - a) ≡ j = omega arith in
+      subst P (get_or-range_with_len a (b - a) (j - a) 0 (omega arith) ∙ e)
+      (MatchBool-at_true _ _ t m (j - a) 0 (omega arith) (rw length-range_with_len (omega arith))),
+  λ f. let w = MatchBool-at_false _ _ f m in
+      (a + w.0, subst (λ (j : ℕ). ¬ P j) (get_or-range_with_len a (b - a) w.0 0 (omega (arith, length-range_with_len a (b - a)))) (w.2 0)),
+)
 
 -- ---- a section's claims, as a loop goes through them
 

@@ -4,7 +4,6 @@ use Rattle.std.specs.Prelude.{List, ℕ, ◌*◌, ◌≤◌, ◌<◌, length}
 use Rattle.chain.specs.Lists.{Each}
 use Rattle.semantics.specs.Books.{MembershipClaim, LinkClaim, Claimed, Mentions, membership_individuals, link_individuals, link_roles}
 use Rattle.claims.specs.Claims.{claim_count, membership_at, link_at}
-use Rattle.columns.specs.Columns.{column_count}
 
 -- individual j meets the claim, by the terms' grades at the individuals' elements; it does, if the claim mentions it; each member does
 module _ (grade : (term element : ℕ) → ℕ) (element : (individual : ℕ) → ℕ) (q : MembershipClaim) where
@@ -19,16 +18,16 @@ module _ (grade : (term element : ℕ) → ℕ) (element : (individual : ℕ) �
 
 -- ---- what there must be
 
--- a column for a membership claim's term, and elements for its individuals
-abbrev pub MembershipCovered : (v js : List ℕ) → MembershipClaim → Type 0
-MembershipCovered v js q = (q.term < column_count v) × (membership_individuals q ≤ length js)
+-- one of the 64 columns for a membership claim's term, and elements for its individuals
+abbrev pub MembershipCovered : List ℕ → MembershipClaim → Type 0
+MembershipCovered js q = (q.term < 64) × (membership_individuals q ≤ length js)
 
 -- n rows of n for a link claim's role, and elements for its individuals
 abbrev pub LinkCovered : (n : ℕ) (ls js : List ℕ) → LinkClaim → Type 0
 LinkCovered n ls js q = (link_roles q * (n * n) ≤ length ls) × (link_individuals q ≤ length js)
 
-abbrev pub MembershipsCovered : (v js ms : List ℕ) → Type 0
-MembershipsCovered v js ms = (i : ℕ) → i < claim_count ms → MembershipCovered v js (membership_at ms i)
+abbrev pub MembershipsCovered : (js ms : List ℕ) → Type 0
+MembershipsCovered js ms = (i : ℕ) → i < claim_count ms → MembershipCovered js (membership_at ms i)
 
 abbrev pub LinksCovered : (n : ℕ) (ls js qs : List ℕ) → Type 0
 LinksCovered n ls js qs = (i : ℕ) → i < claim_count qs → LinkCovered n ls js (link_at qs i)

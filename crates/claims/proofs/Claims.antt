@@ -1,37 +1,21 @@
 -- Laws of the claims' sections.
 -- Assumes nothing.
-use mathlib.Core.Path.{◌≡◌, refl, sym, ap, ◌∙◌}
-use mathlib.Core.Logic.{◌⊎◌, inl, inr, ⊎_elim, ◌↔◌, if_pos, if_neg}
+use mathlib.Core.Path.{◌≡◌, sym, ◌∙◌}
+use mathlib.Core.Logic.{◌↔◌, if_pos, if_neg}
 use mathlib.Core.List.{List, [], ◌∷◌, flat_map}
-use Prim.Native.Nat.{ℕ, zero, suc, ◌*◌, ◌≤◌, ◌<◌, max}
+use Prim.Native.Nat.{ℕ, suc, ◌*◌, ◌≤◌, ◌<◌, max}
 use native.Mathlib.Nat.{add-zero}
 use native.Mathlib.Omega.{arith}
 use native.Mathlib.Decide.{dec_lt}
-use lib.Dec.{eqb}
 use lib.ListN.{length}
-use Rattle.chain.specs.Decisions.{Tells}
 use Rattle.chain.specs.Lists.{Mem, Each, highest, table}
-use Rattle.chain.proofs.Decisions.{tells_map, tells_eq}
 use Rattle.chain.proofs.Lists.{mem_each, each-table, length-table, highest-each, highest-most}
 use Rattle.chain.proofs.Blocks.{blocks_whole}
-use Rattle.semantics.specs.Books.{at_least, at_most, MembershipClaim, LinkClaim, membership_individuals, link_individuals, link_roles}
+use Rattle.semantics.specs.Books.{MembershipClaim, LinkClaim, membership_individuals, link_individuals, link_roles}
 use Rattle.encoding.specs.Bits.{Bit, bits_of}
 use Rattle.encoding.proofs.Bits.{bits_mem}
-use Rattle.claims.specs.Claims.{sense_of, members_of, claim_count, membership_record, membership_at, memberships_of, MembershipsRight, link_at, links_of, LinkRight, LinksRight}
+use Rattle.claims.specs.Claims.{members_of, claim_count, membership_record, membership_at, memberships_of, MembershipsRight, link_at, links_of, LinkRight, LinksRight}
 use Rattle.claims.specs.declared.LinkRecord.{LinkRecord}
-
--- ---- a sense, by its byte
-
-pub sense_least : (k j : ℕ) → k ≡ j → (j ≡ 0) ⊎ (j ≡ 2) → sense_of k ≡ at_least
-sense_least k j e (inl z) = ap sense_of (e ∙ z)
-sense_least k j e (inr z) = ap sense_of (e ∙ z)
-
-pub sense-most : (k : ℕ) → ¬ (k ≡ 0) → ¬ (k ≡ 2) → sense_of k ≡ at_most
-sense-most zero n m = absurd (n refl)
-sense-most (suc zero) n m = refl
-sense-most (suc (suc zero)) n m = absurd (m refl)
-sense-most (suc (suc (suc zero))) n m = refl
-sense-most (suc (suc (suc (suc k)))) n m = refl
 
 -- ---- whom the first byte names
 
@@ -43,18 +27,6 @@ module _ (k x : ℕ) where
   pub members-set : ¬ (k < 2) → members_of k x ≡ bits_of x
   unfolding members_of
   members-set n = if_neg (dec_lt k 2) n (x ∷ []) (bits_of x)
-
-  -- by the number y that equals it, the one
-  pub one_mentioned : k < 2 → (y j : ℕ) → y ≡ x → Tells (eqb y j) (Mem j (members_of k x))
-  one_mentioned h y j e =
-      rw (members_one h) (tells_map _ (λ g. inl (omega arith)) (λ m. ⊎_elim (λ g. omega arith) (λ z. absurd z) m) (tells_eq y j))
-
-  pub one_highest : k < 2 → highest suc (members_of k x) ≡ suc x
-  unfolding highest
-  one_highest h = rw (members_one h) (omega arith)
-
-  pub one_from : k < 2 → (j : ℕ) → Mem j (members_of k x) → j ≡ x
-  one_from h j = rw (members_one h) (λ m. ⊎_elim (λ e. e) (λ z. absurd z) m)
 
   -- of a set those whose bit is set
   pub set_mentions : ¬ (k < 2) → (j : ℕ) → Mem j (members_of k x) ↔ ((j < 8) × Bit x j)

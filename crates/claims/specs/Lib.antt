@@ -3,3 +3,4 @@ pub mod Pairs
 pub mod Claims
 pub mod Books
 pub mod Sets
+pub mod Values

@@ -5,14 +5,16 @@
 ghost use Rattle.std.specs.Prelude.{◌≡◌, ℕ, ◌<◌, ◌≤◌};
 ghost use Rattle.chain.specs.Decisions.{Tells};
 ghost use Rattle.semantics.specs.Books.{Claimed, Mentions, membership_individuals, link_individuals};
-ghost use Rattle.claims.specs.Claims.{claim_count, membership_of, membership_record, link_of, link_record};
+ghost use Rattle.claims.specs.Claims.{claim_count, members_of, sense_of, membership_of, membership_record, link_of, link_record};
+ghost use Rattle.claims.specs.Values.{members_named, as_sense};
 
-use encoding::{above_bits, bit, wide};
+use encoding::{above_bits, bit};
 
 // A sense is "at least" or "at most", for an individual or, from 2 on, for a set.
 pub const SETS: u8 = 2;
 
-// A membership claim's bytes: whom it names, an individual or a set, its term, its sense and the grade claimed.
+// A membership claim's bytes: whom it names, an individual or a set, its term, its sense and the grade claimed. They stay bytes, so that the checks can
+// refuse those that are out of range.
 #[derive(Clone, Copy)]
 pub struct MembershipRecord {
     pub named: u8,
@@ -56,58 +58,79 @@ pub fn link_claim_at(s: &[u8], i: usize) -> LinkRecord
 
 // ---- what a claim says
 
+// Whom a membership claim is about: an individual, or the set of those whose bits are set.
+enum Named {
+    Individual(u8),
+    Set(u8),
+}
+
+enum Sense {
+    AtLeast,
+    AtMost,
+}
+
+fn whom(claim: MembershipRecord) -> Named
+    ensures { members_named result ≡ members_of claim.sense claim.named }
+{
+    if claim.sense < SETS {
+        Named::Individual(claim.named)
+    } else {
+        Named::Set(claim.named)
+    }
+}
+
+fn sense_of(claim: MembershipRecord) -> Sense
+    ensures { as_sense result ≡ sense_of claim.sense }
+{
+    match claim.sense {
+        0 | 2 => Sense::AtLeast,
+        _ => Sense::AtMost,
+    }
+}
+
 // Does the claim mention individual `j`?
 pub fn mentions(claim: MembershipRecord, j: usize) -> bool
     ensures { Tells result (Mentions (membership_of claim) j) }
 {
-    if claim.sense < SETS {
-        return wide(claim.named) == j;
+    match whom(claim) {
+        Named::Individual(i) => usize::from(i) == j,
+        Named::Set(members) => j < 8 && bit(members, j),
     }
-    if 8 <= j {
-        return false;
-    }
-    bit(claim.named, j)
 }
 
 // It mentions no individual below this one: where a search for those that it mentions may start.
 pub fn mentioned_from(claim: MembershipRecord) -> usize
     ensures { (j : ℕ) → Mentions (membership_of claim) j → result ≤ j }
 {
-    if claim.sense < SETS {
-        return wide(claim.named);
+    match whom(claim) {
+        Named::Individual(i) => usize::from(i),
+        Named::Set(_) => 0,
     }
-    0
 }
 
 // One more than the highest individual that it mentions; 0 if it mentions none.
 pub fn mentioned(claim: MembershipRecord) -> usize
     ensures { result ≡ membership_individuals (membership_of claim) }
 {
-    if claim.sense < SETS {
-        return wide(claim.named) + 1;
+    match whom(claim) {
+        Named::Individual(i) => usize::from(i) + 1,
+        Named::Set(members) => above_bits(members),
     }
-    above_bits(claim.named)
 }
 
 // Is the grade at least, or at most, the one claimed?
 pub fn claimed(claim: MembershipRecord, actual: u8) -> bool
     ensures { Tells result (Claimed (membership_of claim).sense (membership_of claim).grade actual) }
 {
-    if claim.sense == 0 {
-        return claim.grade <= actual;
+    match sense_of(claim) {
+        Sense::AtLeast => claim.grade <= actual,
+        Sense::AtMost => actual <= claim.grade,
     }
-    if claim.sense == 2 {
-        return claim.grade <= actual;
-    }
-    actual <= claim.grade
 }
 
 // One more than the higher of the two individuals of a link claim.
 pub fn linked(claim: LinkRecord) -> usize
     ensures { result ≡ link_individuals (link_of claim) }
 {
-    if claim.source < claim.target {
-        return wide(claim.target) + 1;
-    }
-    wide(claim.source) + 1
+    usize::from(claim.source.max(claim.target)) + 1
 }

@@ -1,6 +1,6 @@
 -- Bounds on places in bodies of rows, over plain numbers, and what a lent part of a list has.
 -- Assumes nothing.
-use mathlib.Core.Path.{◌≡◌}
+use mathlib.Core.Path.{◌≡◌, refl}
 use mathlib.Core.List.{List}
 use Prim.Native.Nat.{ℕ, ◌+◌, ◌*◌, ◌-◌, ◌≤◌, ◌<◌}
 use native.Mathlib.Nat.{mul-suc, mul_comm, mul_assoc, mul-le-mul_left}
@@ -23,12 +23,11 @@ block_row-end n r R e h l = rw (← mul_assoc R n n, mul_comm (R * n) n) (row_en
 -- ---- n entries from place k on
 
 -- as code lends them
-pub part-from : (l : List ℕ) (k n : ℕ) → take (k + n - k) (drop k l) ≡ take n (drop k l)
-part-from l k n = let e : k + n - k ≡ n = omega arith in rw e
+pub part-lent : (l : List ℕ) (k n : ℕ) → k + n ≤ length l
+    → (take (k + n - k) (drop k l) ≡ take n (drop k l)) × (length (take (k + n - k) (drop k l)) ≡ n)
+part-lent l k n h =
+    let e : k + n - k ≡ n = omega arith in
+    rw e (refl, length-take-le n (drop k l) (rw length-drop (omega arith)))
 
-module _ (l part : List ℕ) (n k : ℕ) (is : part ≡ take n (drop k l)) where
-  pub part-long : k + n ≤ length l → n ≤ length part
-  part-long h = rw is (omega (arith, length-take-le n (drop k l) (rw length-drop (omega arith))))
-
-  pub part_at : (f : ℕ) → f < n → get_or part f 0 ≡ get_or l (k + f) 0
-  part_at f h = rw (is, get_or-take, get_or-drop)
+pub part_at : (l part : List ℕ) (n k : ℕ) (is : part ≡ take n (drop k l)) (f : ℕ) → f < n → get_or part f 0 ≡ get_or l (k + f) 0
+part_at l part n k is f h = rw (is, get_or-take, get_or-drop)

@@ -1,3 +1,4 @@
+pub mod Cells
 pub mod Bounds
-pub mod Columns
+pub mod Rows
 pub mod Workable

@@ -3,47 +3,78 @@
 #![tactic(auto)]
 
 ghost use Rattle.std.specs.Prelude.{◌≡◌, ℕ, ◌+◌, ◌*◌, ◌<◌, ◌≤◌, length, get_or, take, drop};
-ghost use Rattle.chain.specs.Connectives.{neutral as neutralOf, join as join_of};
-ghost use Rattle.sections.specs.Terms.{quantifier_of};
-ghost use Rattle.columns.specs.Columns.{cell_at, column_count};
+ghost use Rattle.chain.specs.Connectives.{neutral as neutral_of, join as join_of};
+ghost use Rattle.sections.specs.Values.{as_quantifier};
+ghost use Rattle.columns.specs.Columns.{cell_at, column_at, Stored};
 ghost use Rattle.columns.specs.Workable.{Reached, taken_over, taken_at};
 
-use gradings::{Logic, through};
+use gradings::Logic;
+use sections::Quantifier;
 
-// ---- "some" (kind 4) and "all" (kind 5) over all of `n` elements, linked or not
+// The grades of up to 64 terms, a column for each, at up to 64 elements.
+#[derive(Drop)]
+pub struct Columns {
+    pub cells: [[u8; 64]; 64],
+}
+
+impl Columns {
+    // The grade of term `i` at element `e`.
+    pub fn cell(&self, i: u8, e: usize) -> u8
+        requires { (i < 64) × (e < 64) }
+        ensures { result ≡ cell_at self.now i e }
+    {
+        self.cells[usize::from(i)][e]
+    }
+
+    // Makes `g` the grade of term `i` at element `e`.
+    pub fn set(&mut self, i: usize, e: usize, g: u8)
+        requires { (i < 64) × (e < 64) }
+        ensures { Stored self.old self.new i e g }
+    {
+        let column = &mut self.cells[i];
+        column[e] = g;
+    }
+
+    // The grades of term `i` at the first `n` elements.
+    fn column(&self, i: u8, n: usize) -> &[u8]
+        requires { (i < 64) × (n ≤ 64) }
+        ensures { (result.now ≡ take n (column_at self.now i)) × (length result.now ≡ n) }
+    {
+        &self.cells[usize::from(i)][..n]
+    }
+}
+
+// ---- "some" and "all" over all of `n` elements, linked or not
 
 // Over no element.
-fn neutral(logic: Logic, kind: u8) -> u8
-    requires { (4 ≤ kind) × (kind ≤ 5) }
-    ensures { result ≡ neutralOf (quantifier_of kind) logic.steps }
+fn neutral(logic: Logic, quantifier: Quantifier) -> u8
+    ensures { result ≡ neutral_of (as_quantifier quantifier) logic.steps }
 {
-    if kind == 4 { 0 } else { logic.steps }
+    match quantifier {
+        Quantifier::Existential => 0,
+        Quantifier::Universal => logic.steps,
+    }
 }
 
 // Over two: for "some" the greater, for "all" the lesser.
-fn join(kind: u8, x: u8, y: u8) -> u8
-    requires { (4 ≤ kind) × (kind ≤ 5) }
-    ensures { result ≡ join_of (quantifier_of kind) x y }
+fn join(quantifier: Quantifier, x: u8, y: u8) -> u8
+    ensures { result ≡ join_of (as_quantifier quantifier) x y }
 {
-    if kind == 4 {
-        return if x < y { y } else { x };
+    match quantifier {
+        Quantifier::Existential => x.max(y),
+        Quantifier::Universal => x.min(y),
     }
-    if x < y { x } else { y }
 }
 
-// Over the first `n`.
-fn taken_over(logic: Logic, kind: u8, row: &[u8], column: &[u8], n: usize) -> u8
-    requires le_kind { (4 ≤ kind) × (kind ≤ 5) × (n ≤ length row.now) × (n ≤ length column.now) }
-    requires by_index { (f : ℕ) → f < n → get_or row.now f 0 ≤ logic.steps }
-    ensures { result ≡ taken_over (quantifier_of kind) logic row.now column.now n }
+// Over as many as the row and the column have.
+fn taken_over(logic: Logic, quantifier: Quantifier, row: &[u8], column: &[u8]) -> u8
+    requires same_length { length row.now ≡ length column.now }
+    requires by_index { (f : ℕ) → f < length row.now → get_or row.now f 0 ≤ logic.steps }
+    ensures { result ≡ taken_over (as_quantifier quantifier) logic row.now column.now (length row.now) }
 {
-    let mut found = neutral(logic, kind);
-    let mut f = 0;
-    while f < n {
-        let link = row[f];
-        let child = column[f];
-        found = join(kind, found, through(logic, kind, link, child));
-        f += 1;
+    let mut found = neutral(logic, quantifier);
+    for (link, child) in row.iter().zip(column) {
+        found = join(quantifier, found, logic.through(quantifier, *link, *child));
     }
     found
 }
@@ -51,51 +82,31 @@ fn taken_over(logic: Logic, kind: u8, row: &[u8], column: &[u8], n: usize) -> u8
 // The links of `role` from element `e` to each.
 pub fn links_from(links: &[u8], n: usize, role: u8, e: usize) -> &[u8]
     requires { (n ≤ 64) × (e < n) × (n * (n * role + e) + n ≤ length links.now) }
-    ensures { result.now ≡ take n (drop (n * (n * role + e)) links.now) }
+    ensures { (result.now ≡ take n (drop (n * (n * role + e)) links.now)) × (length result.now ≡ n) }
 {
-    let start = n * (n * (role as usize) + e);
-    let end = start + n;
-    &links[start..end]
+    let start = n * (n * usize::from(role) + e);
+    &links[start..start + n]
 }
 
-// The grades of term `i` at each of `n` elements.
-fn column_of(values: &[u8], n: usize, i: u8) -> &[u8]
-    requires { (n ≤ 64) × (i < column_count values.now) }
-    ensures { result.now ≡ take n (drop (64 * i) values.now) }
-{
-    let start = 64 * (i as usize);
-    let end = start + n;
-    &values[start..end]
-}
-
-// Of kind 4 or 5.
+// What a quantified term takes at element `e`, from the links of `role` and the column of `child`.
 pub fn taken_at(
     logic: Logic,
-    kind: u8,
+    quantifier: Quantifier,
     n: usize,
     links: &[u8],
     role: u8,
-    values: &[u8],
+    columns: &Columns,
     child: u8,
     e: usize,
 ) -> u8
-    requires le_kind { (4 ≤ kind) × (kind ≤ 5) × Reached n links.now values.now role child e }
+    requires reached { Reached n links.now role child e }
     requires by_index { (k : ℕ) → get_or links.now k 0 ≤ logic.steps }
-    ensures { result ≡ taken_at (quantifier_of kind) logic n links.now values.now role child e }
+    ensures { result ≡ taken_at (as_quantifier quantifier) logic n links.now columns.now role child e }
 {
     taken_over(
         logic,
-        kind,
+        quantifier,
         links_from(links, n, role, e),
-        column_of(values, n, child),
-        n,
+        columns.column(child, n),
     )
-}
-
-// The grade of term `i` at element `e`.
-pub fn cell(values: &[u8], i: u8, e: usize) -> u8
-    requires { (i < column_count values.now) × (e < 64) }
-    ensures { result ≡ cell_at values.now i e }
-{
-    values[64 * (i as usize) + e]
 }

@@ -9,7 +9,6 @@ ghost use Rattle.counter.specs.Counting.{candidate_questions, counted_of, counte
 
 use book::Opened;
 use layout::Sections;
-use powers::Power;
 
 // The number of the first check that says no, or how many candidates there are.
 #[derive(Clone, Copy)]
@@ -24,8 +23,8 @@ pub fn count_in(b: &[u8], s: Sections) -> Counted
     ensures { result ≡ counted_of b.now }
 {
     match places::count_candidates(layout::terms_in(b, s), s.steps) {
-        Power::Exactly(n) => Counted::Candidates(n),
-        Power::More => Counted::Refused(10),
+        Some(n) => Counted::Candidates(n),
+        None => Counted::Refused(10),
     }
 }
 

@@ -3,7 +3,7 @@
 
 #![tactic(auto)]
 
-ghost use Rattle.std.specs.Prelude.{◌≡◌, ◌*◌, ◌<◌, ◌≤◌, min, length};
+ghost use Rattle.std.specs.Prelude.{◌*◌, ◌<◌, ◌≤◌, length};
 ghost use Rattle.sections.specs.Terms.{term_count, TermsRight};
 ghost use Rattle.book.specs.Opening.{Right};
 
@@ -11,59 +11,35 @@ use book::Opened;
 use decisions::Decision;
 use gradings::Logic;
 use layout::Sections;
+use printout::Text;
 use std::io;
-
-// One mark byte for each candidate that a book may have.
-fn no_marks() -> [u8; 16384]
-    ensures { 16384 ≡ length result }
-{
-    [0; 16384]
-}
-
-// The text of the lines of 256 candidates.
-fn lines_room() -> [u8; 65536]
-    ensures { 65536 ≡ length result }
-{
-    [0; 65536]
-}
-
-fn lesser(x: usize, y: usize) -> usize
-    ensures { result ≡ min x y }
-{
-    if x < y { x } else { y }
-}
-
-// Writes the text in the first `end` bytes of the buffer.
-fn write(rt: &impl Print, out: &[u8], end: usize) -> io::Result<()>
-    requires { end ≤ length out.now }
-{
-    rt.write_all(&out[..end])
-}
 
 fn print_refusal(rt: &impl Print, n: u8) -> io::Result<()> {
     let mut out = [0u8; 192];
-    let end = printout::refused_line(&mut out, 0, n);
-    write(rt, &out, end)
+    let mut text = Text::new(&mut out);
+    text.refused_line(n);
+    rt.write_all(text.bytes())
 }
 
 fn print_outcome(rt: &impl Print, outcome: u8, survivors: usize) -> io::Result<()> {
     let mut out = [0u8; 192];
-    let end = printout::outcome_line(&mut out, 0, outcome, survivors);
-    write(rt, &out, end)
+    let mut text = Text::new(&mut out);
+    text.outcome_line(outcome, survivors);
+    rt.write_all(text.bytes())
 }
 
-// A line for each candidate that is marked, in ascending order; 256 candidates' lines fit in the buffer.
+// A line for each candidate that is marked, in ascending order; the lines of 256 candidates fit in the buffer.
 fn print_types(rt: &impl Print, terms: &[u8], logic: Logic, marks: &[u8]) -> io::Result<()>
     requires terms_right { TermsRight terms.now }
     requires terms_bound { (term_count terms.now ≤ 64) × (logic.steps < 10) × (length marks.now ≤ 16384) }
 {
-    let mut out = lines_room();
-    let mut first = 0;
-    while first < marks.len() {
-        let count = lesser(256, marks.len() - first);
-        let end = printout::type_lines(&mut out, terms, logic, marks, first, count);
-        write(rt, &out, end)?;
-        first += count;
+    let mut out = [0u8; 65536];
+    for block in 0..marks.len().div_ceil(256) {
+        let first = 256 * block;
+        let count = (marks.len() - first).min(256);
+        let mut text = Text::new(&mut out);
+        text.type_lines(terms, logic, marks, first, count);
+        rt.write_all(text.bytes())?;
     }
     Ok(())
 }
@@ -80,8 +56,9 @@ fn print_individuals(rt: &impl Print, placement: &[u8], count: usize) -> io::Res
     requires { (count ≤ 8) × (2 * count ≤ length placement.now) }
 {
     let mut out = [0u8; 1536];
-    let end = printout::individual_lines(&mut out, placement, count);
-    write(rt, &out, end)
+    let mut text = Text::new(&mut out);
+    text.individual_lines(placement, count);
+    rt.write_all(text.bytes())
 }
 
 // The individuals' lines.
@@ -93,11 +70,11 @@ fn print_placement(rt: &impl Print, b: &[u8], s: Sections, placement: &[u8]) -> 
     print_individuals(rt, placement, counts.individuals)
 }
 
-// Decides a book that was opened, and prints the decision.
+// Decides a book that was opened, and prints the decision. One mark byte for each candidate that a book may have.
 fn print_decision(rt: &impl Print, b: &[u8], s: Sections) -> io::Result<()>
     requires { Right b.now s }
 {
-    let mut marks = no_marks();
+    let mut marks = [0u8; 16384];
     let mut placement = [0u8; 16];
     match decider::decide_in(b, s, &mut marks, &mut placement) {
         Decision::Refused(n) => print_refusal(rt, n),

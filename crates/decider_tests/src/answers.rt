@@ -43,17 +43,7 @@ pub fn of_grade(a: asking::Answer) -> Answer {
 pub fn says_meets(w: Worked) -> bool {
     match w {
         Worked::Refused(_) => false,
-        Worked::Says(v) => is_meets(v),
-    }
-}
-
-fn is_meets(v: Verdict) -> bool {
-    match v {
-        Verdict::Meets => true,
-        Verdict::BreaksRule(_, _) => false,
-        Verdict::BreaksPair(_, _, _) => false,
-        Verdict::BreaksMembership(_) => false,
-        Verdict::BreaksLink(_) => false,
+        Worked::Says(v) => v == Verdict::Meets,
     }
 }
 

@@ -4,13 +4,13 @@ use mathlib.Core.Path.{◌≡◌, refl, sym, subst, ◌∙◌}
 use mathlib.Core.Logic.Iff
 use mathlib.Core.Logic.{◌↔◌, dite}
 use mathlib.Core.List.{List}
-use Prim.Native.Nat.{ℕ, ◌+◌, ◌-◌, ◌*◌, ◌≤◌, ◌<◌}
+use Prim.Native.Nat.{ℕ, ◌+◌, ◌*◌, ◌≤◌, ◌<◌}
 use native.Mathlib.Decide.{ℕ_discrete, dec_lt}
 use native.Mathlib.Omega.{arith}
 use lib.ListN.{length, get_or, set}
 use lib.Seq.{get_or-set_same, get_or-set_other, set_out}
 use Rattle.domains.specs.Tables.{Allowed}
-use Rattle.domains.specs.Gaps.{gap_at, GapAt, GapsFrom, Leap, Gaps, SameAllowed, Noting, NotedAll}
+use Rattle.domains.specs.Gaps.{gap_at, GapsFrom, Gaps, Noting, NotedAll}
 
 pub noting_start : (j count : ℕ) (table : List ℕ) → Noting j count 0 count table table
 noting_start j count table = record {
@@ -65,19 +65,14 @@ module _ (j c g count : ℕ) (old new : List ℕ) (w : Noting j (c + 1) g count 
         gap = gap;
         noted = λ d l m. dite (ℕ_discrete d c)
             (λ z e k y. gap e (omega arith) (omega (arith, y, subst (λ (x : ℕ). gap_at next j x ≡ v + 1) (sym z) here)))
-            (λ n e k y a. w.noted d (omega (arith, n)) m e k (omega (arith, y, elsewhere (16384 * j + d) (λ q. n (omega arith)))) ((still (16384 * j + e)).0 a));
+            (λ n e k y a. w.noted d (omega (arith, n)) m e k (omega (arith, y, elsewhere (16384 * j + d) (λ q. n (omega arith))))
+            ((still (16384 * j + e)).0 a));
       }
 
 pub noting_end : (j g count : ℕ) (old new : List ℕ) → Noting j 0 g count old new → NotedAll j count old new
 noting_end j g count old new w = record { same = w.same; others = w.others; gap = λ e l h. absurd (omega arith); noted = w.noted }
 
 -- ---- individual by individual
-
-pub same_none : (table : List ℕ) → SameAllowed table table
-same_none table x = (λ h. h, λ h. h)
-
-pub same_then : (a b c : List ℕ) → SameAllowed a b → SameAllowed b c → SameAllowed a c
-same_then a b c f g x = Iff.trans (g x) (f x)
 
 -- a cell of a table of which one is made 0
 cleared : (table : List ℕ) (y x : ℕ) (P : ℕ → Type 0) → P 0 → P (get_or table x 0) → P (get_or (set table y 0) x 0)
@@ -94,10 +89,7 @@ gaps-noted_of k i count old new small w f = dite (ℕ_discrete i k)
     (λ z. subst (λ (x : ℕ). GapsFrom new x 0 count) (sym z) w.noted)
     (λ n d m h e u y a. f n d m h e u (omega (arith, y, w.others i d n (omega arith))) ((w.same (16384 * i + e)).0 a))
 
--- the gaps of one more are noted, or those of one again
-pub gaps-more : (k count : ℕ) (old new : List ℕ) → count ≤ 16384 → Gaps old k count → NotedAll k count old new → Gaps new (k + 1) count
-gaps-more k count old new small f w i l = gaps-noted_of k i count old new small w (λ n. f i (omega (arith, n, l)))
-
+-- the gaps of one are noted again
 pub gaps-noted : (j n count : ℕ) (old new : List ℕ) → count ≤ 16384 → Gaps old n count → NotedAll j count old new → Gaps new n count
 gaps-noted j n count old new small f w i l = gaps-noted_of j i count old new small w (λ _. f i l)
 
@@ -107,17 +99,3 @@ gaps-set table n count j c f i l d m h e u y a =
     f i l d m h e u
     (omega (arith, y, cleared table (16384 * j + c) (16384 * i + d) (λ z. z ≤ gap_at table i d) (omega arith) (omega arith)))
     (cleared table (16384 * j + c) (16384 * i + e) (λ z. z ≡ 1 → Allowed table i e) (λ z. absurd (omega arith)) (λ z. z) a)
-
--- ---- one cell
-
-module _ (table : List ℕ) where
-  pub gap_at_lem : (n count j c : ℕ) → Gaps table n count → j < n → c < count → GapAt table j c
-  gap_at_lem n count j c f l h = f j l c (omega arith) h
-
-  -- what a cell v says of the candidates from c on
-  module _ (j c v : ℕ) (cell : v ≡ gap_at table j c) where
-    pub leap_one : v ≡ 0 → Leap table j c 1
-    leap_one z = (λ y. absurd (omega arith), λ e l h a. let y : e ≡ c = omega arith in omega (arith, subst (λ (x : ℕ). Allowed table j x) y a), omega arith)
-
-    pub leap_on : v < 256 → GapAt table j c → ¬ (v ≡ 1) → ¬ (v ≡ 0) → Leap table j c (v - 1)
-    leap_on f g n m = (λ z. absurd (omega arith), λ e l h. g e l (omega arith), omega arith)

@@ -5,15 +5,16 @@ use Rattle.std.specs.Prelude.{◌≡◌, List, ℕ, ◌≤◌, ◌<◌, length}
 use Rattle.gradings.specs.declared.Logic.{Logic}
 use Rattle.levels.specs.Rows.{row_at}
 use Rattle.boxes.specs.Boxes.{OnChain}
+use Rattle.network.specs.declared.Constraint.{Constraint}
 use Rattle.network.specs.Constraints.{AllMet}
 use Rattle.network.specs.Network.{between, Wired}
 use Rattle.domains.specs.Tables.{Allowed}
 
 -- the rows a and b meet the constraints from the one to the other, and back
-abbrev pub FitsBy : Logic → (forth back : List ℕ) (a b : List ℕ) → Type 0
+abbrev pub FitsBy : Logic → (forth back : List Constraint) (a b : List ℕ) → Type 0
 FitsBy l forth back a b = AllMet l forth a b × AllMet l back b a
 
-module _ (l : Logic) (net ends : List ℕ) where
+module _ (l : Logic) (net : List Constraint) (ends : List ℕ) where
   -- a row a for individual j and a row b for individual i are compatible
   abbrev pub Fits : (j i : ℕ) (a b : List ℕ) → Type 0
   Fits j i = FitsBy l (between net ends j i) (between net ends i j)
@@ -26,7 +27,7 @@ module _ (l : Logic) (net ends : List ℕ) where
 
 -- ---- what stays as it is throughout: a network over m columns, n individuals, candidates below count, and their rows
 
-pub record Problem (l : Logic) (m : ℕ) (net ends : List ℕ) (count n : ℕ) (rows : List ℕ) : Type 0 where
+pub record Problem (l : Logic) (m : ℕ) (net : List Constraint) (ends : List ℕ) (count n : ℕ) (rows : List ℕ) : Type 0 where
   pub wired : Wired l m net ends
   pub candidates_few : count ≤ 16384
   pub individuals_few : n ≤ 8

@@ -2,142 +2,71 @@
 
 #![tactic(auto)]
 
-ghost use Rattle.std.specs.Prelude.{◌≡◌, ◌++◌, ℕ, ◌≤◌, length, get_or, drop};
+ghost use Rattle.std.specs.Prelude.{◌≡◌, ◌++◌, ◌≤◌, length, drop};
 ghost use Rattle.sections.specs.Terms.{terms_of};
 ghost use Rattle.claims.specs.Rules.{rules_of};
 ghost use Rattle.gradings.specs.Gradings.{grading};
 ghost use Rattle.elimination.specs.Survivors.{survivors};
 ghost use Rattle.elimination.specs.Marks.{marks_of};
-ghost use Rattle.entries.specs.Filling.{Roomy, Entered};
+ghost use Rattle.entries.specs.Filling.{Entered};
 ghost use Rattle.entries.specs.Eliminating.{Task, Eliminated};
+ghost use Rattle.entries.specs.Lent.{grading_of, rules_in};
 
-use entries::{Tally, enter};
+use entries::{Theory, enter};
+use grades::Grader;
 use gradings::Logic;
-use places::find_homes;
+use partition::Classes;
+use passes::Candidates;
 use sweeps::settle;
-use zones::make_zones;
+use witness_boxes::WitnessTables;
+use zones::{Zone, make_zones};
 
-// ---- entering the candidates
-
-// Enters every candidate, with indexes that are lent: they are empty.
-fn enter_in(
-    logic: Logic,
-    terms: &[u8],
-    slots: &[u8],
-    rules: &[u8],
-    own: &mut [u8],
-    child: &mut [u8],
-    source: &mut [u16],
-    target: &mut [u16],
-    first: &mut [u16],
-    second: &mut [u16],
-    marks: &mut [u8],
-) -> Tally
-    requires task { Task logic terms.now slots.now rules.now (length marks.old) }
-    requires roomy { Roomy own.old child.old source.old target.old × (16384 ≤ length first.old) × (16384 ≤ length second.old) }
-    requires by_index { ((i : ℕ) → get_or first.old i 0 ≡ 0) × ((i : ℕ) → get_or second.old i 0 ≡ 0) }
-    ensures { Entered (grading logic (terms_of terms.now)) (rules_of rules.now) slots.now own.new child.new
-        source.new target.new marks.new (length marks.old) result }
-{
-    let homes = find_homes(terms);
-    let count = marks.len();
-    let mut t = Tally {
-        left: 0,
-        sources: 0,
-        targets: 0,
-    };
-    let mut c = 0;
-    while c < count {
-        t = enter(
-            logic, terms, slots, rules, own, child, source, target, first, second, marks, c, t,
-            &homes,
-        );
-        c += 1;
-    }
-    t
-}
-
-// The same, with indexes of its own.
+// Enters every candidate, where there are no classes yet. The number of those marked.
 fn enter_all(
-    logic: Logic,
-    terms: &[u8],
-    slots: &[u8],
-    rules: &[u8],
-    own: &mut [u8],
-    child: &mut [u8],
-    source: &mut [u16],
-    target: &mut [u16],
-    marks: &mut [u8],
-) -> Tally
-    requires task { Task logic terms.now slots.now rules.now (length marks.old) }
-    requires roomy { Roomy own.old child.old source.old target.old }
-    ensures { Entered (grading logic (terms_of terms.now)) (rules_of rules.now) slots.now own.new child.new
-        source.new target.new marks.new (length marks.old) result }
-{
-    let mut first = [0u16; 16384];
-    let mut second = [0u16; 16384];
-    enter_in(
-        logic,
-        terms,
-        slots,
-        rules,
-        own,
-        child,
-        source,
-        target,
-        &mut first,
-        &mut second,
-        marks,
-    )
-}
-
-// ---- the survivors
-
-// Marks the survivors, on tables that are lent and have anything. Their number.
-fn mark_on_tables(
-    logic: Logic,
-    terms: &[u8],
-    slots: &[u8],
-    rules: &[u8],
-    own: &mut [u8],
-    child: &mut [u8],
-    source: &mut [u16],
-    target: &mut [u16],
+    theory: &Theory,
+    sources: &mut Classes,
+    targets: &mut Classes,
     marks: &mut [u8],
 ) -> usize
-    requires task { Task logic terms.now slots.now rules.now (length marks.old) }
-    requires roomy { Roomy own.old child.old source.old target.old }
-    ensures { Eliminated logic terms.now rules.now (length marks.old) result marks.new }
+    requires { (length marks.old ≤ 16384) × (sources.old.count ≡ 0) × (targets.old.count ≡ 0) }
+    ensures { Entered (grading_of theory.now) (rules_in theory.now) theory.now.slots.now sources.new targets.new marks.new (length marks.old) result }
 {
-    let t = enter_all(
-        logic, terms, slots, rules, own, child, source, target, marks,
-    );
-    make_zones(child, slots.len() / 4, t.targets);
-    settle(
-        logic, slots, own, child, source, target, t.sources, t.targets, marks, t.left,
-    )
+    let mut left = 0;
+    for c in 0..marks.len() {
+        left += usize::from(enter(theory, c, sources, targets, marks));
+    }
+    left
 }
 
-// The same, with tables of its own: 16 bytes for each of 16384 sources and targets, and 32 for each of 256 zones.
-fn mark_survivors(logic: Logic, terms: &[u8], slots: &[u8], rules: &[u8], marks: &mut [u8]) -> usize
-    requires { Task logic terms.now slots.now rules.now (length marks.old) }
-    ensures { Eliminated logic terms.now rules.now (length marks.old) result marks.new }
+// Marks the survivors, with room that is lent: there are no classes yet, and the zones have anything. Their number.
+fn mark_survivors(
+    theory: &Theory,
+    sources: &mut Classes,
+    targets: &mut Classes,
+    zones: &mut [Zone],
+    marks: &mut [u8],
+) -> usize
+    requires task { Task theory.now.grader.now.logic theory.now.grader.now.terms.now theory.now.slots.now theory.now.rules.now (length marks.old) }
+    requires room { (sources.old.count ≡ 0) × (targets.old.count ≡ 0) × (256 ≤ length zones.old) }
+    ensures { Eliminated theory.now.grader.now.logic theory.now.grader.now.terms.now theory.now.rules.now (length marks.old) result marks.new }
 {
-    let mut own = [0u8; 262144];
-    let mut child = [0u8; 270336];
-    let mut source = [0u16; 16384];
-    let mut target = [0u16; 16384];
-    mark_on_tables(
-        logic,
-        terms,
-        slots,
-        rules,
-        &mut own,
-        &mut child,
-        &mut source,
-        &mut target,
-        marks,
-    )
+    let left = enter_all(theory, sources, targets, marks);
+    let own = &sources.rows[..sources.count];
+    let child = &targets.rows[..targets.count];
+    make_zones(child, theory.slots.len() / 4, zones);
+    let tables = WitnessTables {
+        logic: theory.grader.logic,
+        slots: theory.slots,
+        own,
+        child,
+        zones,
+    };
+    let candidates = Candidates {
+        tables: &tables,
+        source: &sources.class[..marks.len()],
+        target: &targets.class[..marks.len()],
+    };
+    settle(&candidates, marks, left)
 }
 
 // Marks the survivors of a book's terms and rules among its `count` candidates, 1 for a survivor and 0 for any other, and keeps the bytes past
@@ -155,5 +84,20 @@ pub fn eliminate(
     ensures value { result ≡ length (survivors (grading logic (terms_of terms.now)) (rules_of rules.now)) }
     ensures marks_after { marks.new ≡ marks_of (survivors (grading logic (terms_of terms.now)) (rules_of rules.now)) count ++ drop count marks.old }
 {
-    mark_survivors(logic, terms, slots, rules, &mut marks[..count])
+    let grader = Grader::new(terms, logic);
+    let theory = Theory {
+        grader: &grader,
+        slots,
+        rules,
+    };
+    let mut sources = Classes::new();
+    let mut targets = Classes::new();
+    let mut zones = [Zone::NO_ROW; 256];
+    mark_survivors(
+        &theory,
+        &mut sources,
+        &mut targets,
+        &mut zones,
+        &mut marks[..count],
+    )
 }

@@ -1,19 +1,20 @@
 -- Laws of the bits of a byte, and of a word.
 -- Assumes nothing.
-use mathlib.Core.Path.{◌≡◌, refl, sym, ap, subst, ◌∙◌}
+use mathlib.Core.Path.{◌≡◌, refl, sym, ap, ◌∙◌}
 use mathlib.Core.Logic.{◌↔◌}
 use mathlib.Core.List.{[]}
-use Prim.Native.Nat.{ℕ, zero, suc, ◌+◌, ◌-◌, ◌*◌, ◌/◌, ◌%◌, ◌^◌, ◌≤◌, ◌<◌, min}
+use Prim.Native.Nat.{ℕ, zero, suc, ◌+◌, ◌-◌, ◌*◌, ◌/◌, ◌%◌, ◌^◌, ◌<◌, min}
 use native.Mathlib.Nat.{pow-suc, mul_comm, div-one, div-div-eq-div-mul}
 use native.Mathlib.Decide.{ℕ_discrete, dec_lt}
 use native.Mathlib.Omega.{arith}
 use lib.Arith.{digits_div, digits_mod}
 use lib.Bits.{bit_and, and_step}
+use lib.Count.{count_leading_zeros}
 use Rattle.chain.specs.Decisions.{says}
 use Rattle.chain.specs.Search.{all?}
 use Rattle.chain.specs.Lists.{Mem, Ascending, highest, from}
 use Rattle.chain.proofs.Decisions.{says_true}
-use Rattle.chain.proofs.Lists.{each_mem, mem_each, each-highest, highest-each, mem_keep, keep_mem, mem_from, from_mem, ascending_from, ascending_keep}
+use Rattle.chain.proofs.Lists.{mem_keep, keep_mem, mem_from, from_mem, ascending_from, ascending_keep}
 use Rattle.encoding.specs.Bits.{Bit, bit?, bits_of, byte_of}
 
 module _ (x : ℕ) where
@@ -28,33 +29,6 @@ module _ (x : ℕ) where
   unfolding bits_of
   bits_ascending = ascending_keep (bit? x) 0 (from 0 8) (ascending_from 0 8)
 
-  -- one more than the highest: where bit i is set and none above it, and where none is
-  pub highest-bit : (i : ℕ) → i < 8 → Bit x i → ((j : ℕ) → i < j → j < 8 → ¬ Bit x j) → highest suc (bits_of x) ≡ suc i
-  highest-bit i l b none =
-      let least = each_mem (λ j. suc j ≤ highest suc (bits_of x)) (bits_of x) (each-highest suc (bits_of x) (highest suc (bits_of x)) (omega arith)) i ((bits_mem i).1 (l, b)) in
-      let most : highest suc (bits_of x) ≤ suc i = highest-each suc (bits_of x) (suc i) (mem_each (bits_of x) (λ j m. let w = (bits_mem j).0 m in above j w.0 w.1)) in
-      omega arith
-    where
-      above : (j : ℕ) → j < 8 → Bit x j → suc j ≤ suc i
-      above j h c = go (dec_lt i j)
-        where
-          go : Dec (i < j) → suc j ≤ suc i
-          go (yes m) = absurd (none j m h c)
-          go (no n) = omega arith
-
-  pub no_bit : ((j : ℕ) → j < 8 → ¬ Bit x j) → highest suc (bits_of x) ≡ 0
-  no_bit none =
-      let most : highest suc (bits_of x) ≤ 0 = highest-each suc (bits_of x) 0 (mem_each (bits_of x) (λ j m. let w = (bits_mem j).0 m in absurd (none j w.0 w.1))) in
-      omega arith
-
-  -- none from n on, and not the one below either
-  pub no_bit-from : (n : ℕ) → ((j : ℕ) → n ≤ j → j < 8 → ¬ Bit x j) → 0 < n → ¬ Bit x (n - 1) → (j : ℕ) → n - 1 ≤ j → j < 8 → ¬ Bit x j
-  no_bit-from n none h here j l k b = go (ℕ_discrete j (n - 1))
-    where
-      go : Dec (j ≡ n - 1) → ⊥
-      go (yes e) = here (subst (Bit x) e b)
-      go (no m) = none j (omega arith) k b
-
 -- 0 has none
 pub no_bits : bits_of 0 ≡ []
 unfolding bits_of
@@ -64,6 +38,11 @@ no_bits = refl
 pub byte_of_bits : (x : ℕ) → x < 256 → byte_of (bits_of x) ≡ x
 unfolding all? says ℕ_discrete byte_of bits_of
 byte_of_bits = says_true (all? (λ x. ℕ_discrete (byte_of (bits_of x)) x) 256) refl
+
+-- a byte's leading zeros stand above its highest bit: one test of all bytes
+pub leading-highest : (x : ℕ) → x < 256 → 8 - count_leading_zeros 8 x ≡ highest suc (bits_of x)
+unfolding all? says ℕ_discrete highest bits_of count_leading_zeros
+leading-highest = says_true (all? (λ x. ℕ_discrete (8 - count_leading_zeros 8 x) (highest suc (bits_of x))) 256) refl
 
 -- ---- of any number, by its lowest bit and the rest
 

@@ -17,11 +17,12 @@ pub fn wide(x: u8) -> usize
 }
 
 // A two-byte number, the high byte first.
+#[tactic(auto, unfolding(crate::specs::Words::word_at))]
 pub fn word(b: &[u8], at: usize) -> usize
     requires { at + 1 < length b.now }
     ensures { (result ≡ word_at b.now at) × (result < 65536) }
 {
-    wide(b[at]) * 256 + wide(b[at + 1])
+    usize::from(u16::from_be_bytes([b[at], b[at + 1]]))
 }
 
 // Writes one.
@@ -29,33 +30,22 @@ pub fn write_word(b: &mut [u8], at: usize, v: u16)
     requires { at + 1 < length b.old }
     ensures { b.new ≡ sets b.old at (word_bytes v) }
 {
-    b[at] = (v / 256) as u8;
-    b[at + 1] = (v % 256) as u8;
+    b[at..at + 2].copy_from_slice(&v.to_be_bytes());
 }
 
 // ---- bits
-
-// What a byte counts in which no bit is set.
-const NONE: usize = 0;
 
 // Is bit `i` of a byte set? A shift by i is the division by 2 to the i.
 pub fn bit(x: u8, i: usize) -> bool
     requires { i < 8 }
     ensures { Tells result (Bit x i) }
 {
-    (wide(x) >> i) % 2 == 1
+    (x >> i) % 2 == 1
 }
 
-// One more than the highest bit that is set, or NONE.
+// One more than the highest bit that is set, or 0 where none is.
 pub fn above_bits(x: u8) -> usize
     ensures { result ≡ highest suc (bits_of x) }
 {
-    let mut n = 8;
-    while 0 < n {
-        if bit(x, n - 1) {
-            return n;
-        }
-        n -= 1;
-    }
-    NONE
+    (u8::BITS - x.leading_zeros()) as usize
 }

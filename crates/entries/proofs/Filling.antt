@@ -1,6 +1,6 @@
 -- Laws of entering the candidates.
 -- Assumes nothing.
-use mathlib.Core.Path.{◌≡◌, sym, ap, ◌∙◌}
+use mathlib.Core.Path.{◌≡◌, refl, sym, ap, ◌∙◌}
 use mathlib.Core.Logic.{dite, ◌↔◌}
 use mathlib.Core.List.{List}
 use Prim.Native.Nat.{ℕ, ◌+◌, ◌≤◌, ◌<◌}
@@ -22,9 +22,9 @@ use Rattle.slots.specs.Rows.{SlotRow}
 use Rattle.grades.specs.Rows.{HasGrades}
 use Rattle.elimination.specs.Survivors.{Obeys}
 use Rattle.elimination.specs.Marks.{Marked, marked?}
-use Rattle.partition.specs.Rows.{Names, Enrolled}
+use Rattle.partition.specs.Rows.{Enrolled}
+use Rattle.partition.specs.declared.Classes.{Classes}
 use Rattle.partition.proofs.Rows.{classified_none, classified_more}
-use Rattle.entries.specs.declared.Tally.{Tally}
 use Rattle.rule_marks.specs.Obeying.{RowObeys}
 use Rattle.entries.specs.Filling.{Entered}
 
@@ -43,21 +43,17 @@ module _ (G : Grading) (t : List ℕ) (ok : RulesRight t (length G.terms)) (c : 
 
 -- ---- candidates entered
 
-pub entered_none : (G : Grading) (rs : List Rule) (slots own child source target marks : List ℕ) (t : Tally) → t.left ≡ 0 → t.sources ≡ 0 → t.targets ≡ 0
-    → Entered G rs slots own child source target marks 0 t
+pub entered_none : (G : Grading) (rs : List Rule) (slots : List ℕ) (S T : Classes) (marks : List ℕ) → S.count ≡ 0 → T.count ≡ 0
+    → Entered G rs slots S T marks 0 0
 unfolding rank
-entered_none G rs slots own child source target marks t l m n = record {
-  sources = rw m (classified_none _ (slot_count slots) own source);
-  targets = rw n (classified_none _ (slot_count slots) child target);
+entered_none G rs slots S T marks m n = record {
+  sources = rw m (classified_none _ (slot_count slots) S.rows S.class);
+  targets = rw n (classified_none _ (slot_count slots) T.rows T.class);
   bits = λ c h. absurd (omega arith);
   marked = λ c h. absurd (omega arith);
-  counted = l;
+  counted = refl;
   at_most = omega arith;
 }
-
--- an empty index names nothing
-pub index-none : (index : List ℕ) (k : ℕ) → ((i : ℕ) → get_or index i 0 ≡ 0) → Names index k
-index-none index k z i = omega (arith, z i)
 
 -- the parts of a row of slots, as code cuts them
 module _ (slots : List ℕ) (f : ℕ → ℕ) (part : List ℕ) (w : SlotRow slots f part) where
@@ -67,37 +63,36 @@ module _ (slots : List ℕ) (f : ℕ → ℕ) (part : List ℕ) (w : SlotRow slo
   pub part-child : (q : ℕ) → q < slot_count slots → get_or (take (slot_count slots) (drop (slot_count slots) part)) q 0 ≡ f (slot_child slots q)
   part-child q h = get_or-take (slot_count slots) (drop (slot_count slots) part) q 0 h ∙ get_or-drop (slot_count slots) part q 0 ∙ w.child_is q h
 
-module _ (G : Grading) (t : List ℕ) (ok : RulesRight t (length G.terms)) (slots own child source target marks : List ℕ) (few : slot_count slots ≤ 16) (b : ℕ)
-    (before after : Tally) (E : Entered G (rules_of t) slots own child source target marks b before) (own' child' source' target' row first second : List ℕ)
-    (g : HasGrades G b row) (bit : ℕ) (fits : b < length marks) (one : bit ≤ 1) (tells : (bit ≡ 1) ↔ RowObeys t row) (left : after.left ≡ before.left + bit)
-    (mine : (q : ℕ) → q < slot_count slots → get_or first q 0 ≡ grade_in G b (slot_term slots q))
-    (below : (q : ℕ) → q < slot_count slots → get_or second q 0 ≡ grade_in G b (slot_child slots q))
-    (S : Enrolled first (slot_count slots) own own' source source' b before.sources after.sources)
-    (T : Enrolled second (slot_count slots) child child' target target' b before.targets after.targets) where
+module _ (G : Grading) (t : List ℕ) (ok : RulesRight t (length G.terms)) (slots marks : List ℕ) (b left : ℕ) (S T : Classes)
+    (E : Entered G (rules_of t) slots S T marks b left) (S' T' : Classes) (row first second : List ℕ)
+    (g : HasGrades G b row) (bit : ℕ) (fits : b < length marks) (one : bit ≤ 1) (tells : (bit ≡ 1) ↔ RowObeys t row)
+    (long-first : length first ≡ slot_count slots) (mine : (q : ℕ) → q < slot_count slots → get_or first q 0 ≡ grade_in G b (slot_term slots q))
+    (long-second : length second ≡ slot_count slots) (below : (q : ℕ) → q < slot_count slots → get_or second q 0 ≡ grade_in G b (slot_child slots q))
+    (A : Enrolled first S.rows S'.rows S.class S'.class b S.count S'.count) (B : Enrolled second T.rows T'.rows T.class T'.class b T.count T'.count) where
   here : get_or (set marks b bit) b 0 ≡ bit
   here = get_or-set_same marks b bit 0 fits
 
   there : (c : ℕ) → c < b → get_or (set marks b bit) c 0 ≡ get_or marks c 0
   there c h = get_or-set_other marks b c bit 0 (omega arith)
 
-  pub entered_more : Entered G (rules_of t) slots own' child' source' target' (set marks b bit) (b + 1) after
+  pub entered_more : Entered G (rules_of t) slots S' T' (set marks b bit) (b + 1) (left + bit)
   entered_more = record {
-    sources = classified_more (λ c q. grade_in G c (slot_term slots q)) (slot_count slots) own own' source source' first b before.sources after.sources few mine
-        E.sources S;
-    targets = classified_more (λ c q. grade_in G c (slot_child slots q)) (slot_count slots) child child' target target' second b before.targets after.targets few
-        below E.targets T;
+    sources = classified_more (λ c q. grade_in G c (slot_term slots q)) (slot_count slots) S.rows S'.rows S.class S'.class first b S.count S'.count
+        long-first mine E.sources A;
+    targets = classified_more (λ c q. grade_in G c (slot_child slots q)) (slot_count slots) T.rows T'.rows T.class T'.class second b T.count T'.count
+        long-second below E.targets B;
     bits = below_more (λ c. get_or (set marks b bit) c 0 ≤ 1) b (λ c h. rw (there c h) (E.bits c h)) (rw here one);
     marked = below_more (λ c. Marked (set marks b bit) c ↔ Obeys G (rules_of t) c) b
         (λ c h. (λ m. (E.marked c h).0 (sym (there c h) ∙ m), λ m. there c h ∙ (E.marked c h).1 m))
         (λ m. (row_obeys G t ok b row g).0 (tells.0 (sym here ∙ m)), λ m. here ∙ tells.1 ((row_obeys G t ok b row g).1 m));
-    counted = left ∙ count;
+    counted = count;
     at_most = omega (arith, E.at_most);
   }
     where
       now : List ℕ
       now = set marks b bit
 
-      count : before.left + bit ≡ rank (marked? now) (b + 1)
+      count : left + bit ≡ rank (marked? now) (b + 1)
       count =
           let e : rank (marked? marks) b ≡ rank (marked? now) b =
           rank_same (marked? marks) (marked? now) b (λ c h. (λ m. there c h ∙ m, λ m. sym (there c h) ∙ m)) in

@@ -1,1 +1,1 @@
-pub mod Filter
+pub mod Filtering

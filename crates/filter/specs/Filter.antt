@@ -1,7 +1,7 @@
 -- The filter: the candidates that each individual may have by the claims that mention it alone; and the rows of slots of the marked candidates,
 -- which are made on the way, since a membership claim may be about a term of which those have no grade.
 -- Assumes nothing.
-use Rattle.std.specs.Prelude.{◌≡◌, ◌↔◌, ◌⊎◌, List, ℕ, ◌+◌, ◌*◌, ◌≤◌, ◌<◌, get_or, set, take}
+use Rattle.std.specs.Prelude.{◌≡◌, ◌↔◌, Bool, true, false, List, ℕ, ◌+◌, ◌*◌, ◌≤◌, ◌<◌, get_or, take}
 use Rattle.semantics.specs.Books.{Claimed, Mentions}
 use Rattle.types.specs.Candidates.{grade_in}
 use Rattle.sections.specs.Terms.{term_count, terms_of, TermsRight}
@@ -12,6 +12,7 @@ use Rattle.slots.specs.Slots.{SlotsOf}
 use Rattle.slots.specs.Rows.{SlotRow}
 use Rattle.elimination.specs.Marks.{Marked}
 use Rattle.levels.specs.Rows.{row_at}
+use Rattle.network.specs.declared.Constraint.{Constraint}
 use Rattle.network.specs.Constraints.{AllMet}
 use Rattle.network.specs.Network.{between}
 use Rattle.domains.specs.Tables.{Allowed}
@@ -38,22 +39,18 @@ MembershipBy ms j f i =
 abbrev pub MembershipsBy : (ms : List ℕ) (j : ℕ) (f : ℕ → ℕ) → Type 0
 MembershipsBy ms j f = (i : ℕ) → i < claim_count ms → MembershipBy ms j f i
 
--- ---- of eight individuals, those that are left have a 1
+-- ---- which of eight individuals are left
 
--- individual n was struck, where it is as P says
-abbrev pub StruckOne : (P : ℕ → Type 0) (n : ℕ) (old new : List ℕ) → Type 0
-StruckOne P n old new = (P n × (new ≡ set old n 0)) ⊎ ((¬ P n) × (new ≡ old))
-
--- those below n were, that are
-pub record Struck (P : ℕ → Type 0) (n : ℕ) (old new : List ℕ) : Type 0 where
-  pub left : (j : ℕ) → j < 8 → (get_or new j 0 ≡ 1) ↔ ((get_or old j 0 ≡ 1) × (j < n → ¬ P j))
+-- those below n were struck, where they are as P says
+pub record Struck (P : ℕ → Type 0) (n : ℕ) (old new : List Bool) : Type 0 where
+  pub left : (j : ℕ) → j < 8 → (get_or new j false ≡ true) ↔ ((get_or old j false ≡ true) × (j < n → ¬ P j))
 
 -- left are those whose claims the grades meet
-abbrev pub Fits : (ms : List ℕ) (f : ℕ → ℕ) (fits : List ℕ) → Type 0
-Fits ms f fits = (j : ℕ) → j < 8 → (get_or fits j 0 ≡ 1) ↔ MembershipsBy ms j f
+abbrev pub Fits : (ms : List ℕ) (f : ℕ → ℕ) (fits : List Bool) → Type 0
+Fits ms f fits = (j : ℕ) → j < 8 → (get_or fits j false ≡ true) ↔ MembershipsBy ms j f
 
 -- and the row of slots meets every constraint from j to itself
-abbrev pub Admits : Logic → (ms net ends : List ℕ) (j : ℕ) (f : ℕ → ℕ) (row : List ℕ) → Type 0
+abbrev pub Admits : Logic → (ms : List ℕ) (net : List Constraint) (ends : List ℕ) (j : ℕ) (f : ℕ → ℕ) (row : List ℕ) → Type 0
 Admits l ms net ends j f row = MembershipsBy ms j f × AllMet l (between net ends j j) row row
 
 -- the grades of candidate c
@@ -63,11 +60,11 @@ grades_of l ts c = grade_in (grading l (terms_of ts)) c
 -- ---- the rows and the table
 
 -- as before but for the candidate c, of these grades and this row, which individuals below k may have exactly where they admit it
-pub record Column (l : Logic) (ms net ends : List ℕ) (f : ℕ → ℕ) (row : List ℕ) (k c : ℕ) (old new : List ℕ) : Type 0 where
+pub record Column (l : Logic) (ms : List ℕ) (net : List Constraint) (ends : List ℕ) (f : ℕ → ℕ) (row : List ℕ) (k c : ℕ) (old new : List ℕ) : Type 0 where
   pub here : (j : ℕ) → j < k → Allowed new j c ↔ Admits l ms net ends j f row
   pub elsewhere : (j d : ℕ) → d < 16384 → ¬ (d ≡ c) → get_or new (16384 * j + d) 0 ≡ get_or old (16384 * j + d) 0
 
-module _ (l : Logic) (ts slots ms net ends : List ℕ) where
+module _ (l : Logic) (ts slots ms : List ℕ) (net : List Constraint) (ends : List ℕ) where
   -- candidate c is entered, for n individuals; the rows before its own stay
   pub record Entered (n c : ℕ) (rows rows' table table' : List ℕ) : Type 0 where
     pub before : take (32 * c) rows' ≡ take (32 * c) rows

@@ -3,7 +3,7 @@
 -- Assumes nothing.
 use mathlib.Core.Path.{◌≡◌, refl, sym, ap, subst, ◌∙◌}
 use mathlib.Core.Bool.{Bool}
-use mathlib.Core.Logic.{◌⊎◌, ◌↔◌, dite, if_pos, if_neg}
+use mathlib.Core.Logic.{dite, if_pos, if_neg}
 use mathlib.Core.List.{List}
 use Prim.Native.Nat.{ℕ, ◌+◌, ◌/◌, ◌%◌, ◌^◌, ◌≤◌, ◌<◌}
 use native.Mathlib.Decide.{dec_lt}
@@ -17,19 +17,23 @@ use Rattle.chain.proofs.Decisions.{tells_map}
 use Rattle.chain.proofs.Lists.{length-table, get_or-table, every_table}
 use Rattle.chain.proofs.Digits.{digit_power, off_zero, off_suc}
 use Rattle.semantics.specs.Terms.{Term, name, not, and, or, some, all, top, bottom, term, Children, local}
-use Rattle.semantics.specs.Quantified.{quantified}
+use Rattle.semantics.specs.Quantified.{quantified, Case, case_at}
 use Rattle.semantics.specs.Interpretations.{Grading, WellFormed}
 use Rattle.semantics.specs.Links.{Governs, TermAllows}
-use Rattle.semantics.proofs.Terms.{child_lt, local_same}
+use Rattle.semantics.proofs.Terms.{local_same}
 use Rattle.semantics.proofs.Quantified.{quantified_alike}
 use Rattle.types.specs.Candidates.{place, HasPlace, Opens, opens?, home as home_of, grade_in}
-use Rattle.types.proofs.Candidates.{home_no_later, home-opens, opens-home, grade_in-local, grade_in_le, grade_in-opens, grade_in-home}
-use Rattle.places.proofs.Places.{other_kind, opens_not, open_before, none_open, open_more, open_same}
+use Rattle.types.proofs.Candidates.{home_no_later, opens-home, grade_in-local, grade_in_le, grade_in-opens, grade_in-home}
+use Rattle.places.proofs.Places.{opens_not, open_before, none_open, open_more, open_same}
 use Rattle.gradings.specs.Gradings.{connectives_of, grading}
 use Rattle.gradings.specs.declared.Logic.{Logic}
 use Rattle.gradings.proofs.Gradings.{grading_well_formed}
-use Rattle.sections.specs.Terms.{term_of, quantifier_of, kind_at, a_at, b_at, term_count, term_at, terms_of, TermsRight}
-use Rattle.sections.proofs.Terms.{described-kind, by_kind, term-kind, length-terms, term-at, terms-ordered, quantified-term, other_term}
+use Rattle.sections.specs.Terms.{term_count, term_at, terms_of, TermsRight}
+use Rattle.sections.specs.Values.{as_term}
+use Rattle.sections.specs.declared.Quantifier.{Quantifier as ValueQuantifier}
+use Rattle.sections.specs.declared.Term.{Term as Value}
+use Rattle.sections.specs.declared.Term.TheVariants.{Name, Not, And, Or, Quantified, Top, Bottom}
+use Rattle.sections.proofs.Terms.{length-terms, term-at, terms-ordered}
 use Rattle.grades.specs.OneTerm.{with_places, next_grade, rest_after, grade_of_place, rest_of_place}
 
 -- ---- the table's grade
@@ -38,21 +42,25 @@ module _ (l : Logic) (d home : ℕ) (s xs : List ℕ) where
   abbrev in_table : Term → ℕ
   in_table t = local (with_places l (grade_of_place d home xs)) (length xs) t (λ j. get_or xs j 0)
 
-  -- the table's grade by kind
-  pub grade-kind : (k : ℕ) → kind_at s (length xs) ≡ k → in_table (term_of k (a_at s (length xs)) (b_at s (length xs))) ≡ next_grade l d home s xs
+  -- the next term's, where the term is known
+  pub grade-term : (t : Term) → t ≡ term_at s (length xs) → in_table t ≡ next_grade l d home s xs
   unfolding next_grade
-  grade-kind k e = ap in_table (sym (term-kind s (length xs) k e))
+  grade-term t e = ap in_table e
 
-  -- the kinds that are left are the places
-  pub grade-place : TermsRight s → length xs < term_count s
-      → let k : ℕ = kind_at s (length xs) in ¬ (k ≡ 1) → ¬ (k ≡ 2) → ¬ (k ≡ 3) → ¬ (k ≡ 6) → ¬ (k ≡ 7) → grade_of_place d home xs ≡ next_grade l d home s xs
+  -- where it has a place, it is the grade of the place
+  pub grade-place : HasPlace (place (term_at s (length xs))) → grade_of_place d home xs ≡ next_grade l d home s xs
   unfolding next_grade
-  grade-place ok h =
-      by_kind (λ k t. k < 8 → ¬ (k ≡ 1) → ¬ (k ≡ 2) → ¬ (k ≡ 3) → ¬ (k ≡ 6) → ¬ (k ≡ 7) → grade_of_place d home xs ≡ in_table t)
-      (a_at s (length xs)) (b_at s (length xs)) (λ _ _ _ _ _ _. refl) (λ _ n _ _ _ _. absurd (n refl)) (λ _ _ n _ _ _. absurd (n refl))
-      (λ _ _ _ n _ _. absurd (n refl)) (λ _ _ _ _ _ _. refl) (λ _ _ _ _ _ _. refl) (λ _ _ _ _ n _. absurd (n refl))
-      (λ _ _ _ _ _ n. absurd (n refl)) (λ k g l _ _ _ _ _. absurd (omega arith)) (kind_at s (length xs))
-      (described-kind (length xs) (kind_at s (length xs)) (a_at s (length xs)) (b_at s (length xs)) (ok (length xs) h))
+  grade-place = go (term_at s (length xs))
+    where
+      go : (t : Term) → HasPlace (place t) → grade_of_place d home xs ≡ in_table t
+      go (name a) _ = refl
+      go (some r c) _ = refl
+      go (all r c) _ = refl
+      go (not c) h = absurd h
+      go (and c e) h = absurd h
+      go (or c e) h = absurd h
+      go top h = absurd h
+      go bottom h = absurd h
 
 -- ---- what is left of a candidate's digits
 
@@ -101,57 +109,27 @@ module _ (B home : ℕ) (xs : List ℕ) (c : ℕ) where
   unfolding rest_of_place
   left-digit n = sym (if_neg (dec_lt home (length xs)) n _ _)
 
--- what the next term leaves: by its kind none has a place, or its place tells
+-- what the next term leaves: it has no place, or its place tells
 module _ (B c : ℕ) (s xs : List ℕ) (h : length xs < term_count s) where
-  pub rest-kind : (k : ℕ) → kind_at s (length xs) ≡ k → ¬ (k ≡ 0) → ¬ (k ≡ 4) → ¬ (k ≡ 5) → c ≡ rest_after B (terms_of s) (length xs) c
-  rest-kind k e n0 n4 n5 =
-      rest_other B c (terms_of s) (length xs)
-      (opens_not s (length xs) h (other_kind s (length xs) (λ z. n0 (sym e ∙ z)) (λ z. n4 (sym e ∙ z)) (λ z. n5 (sym e ∙ z))))
+  pub rest-none : (t : Term) → t ≡ term_at s (length xs) → ¬ HasPlace (place t) → c ≡ rest_after B (terms_of s) (length xs) c
+  rest-none t e n = rest_other B c (terms_of s) (length xs) (opens_not s (length xs) h (rw (← e) n))
 
-  pub rest-place : (home : ℕ) → TermsRight s → home ≡ home_of (terms_of s) (length xs)
-      → let k : ℕ = kind_at s (length xs) in ¬ (k ≡ 1) → ¬ (k ≡ 2) → ¬ (k ≡ 3) → ¬ (k ≡ 6) → ¬ (k ≡ 7)
-      → rest_of_place B home xs c ≡ rest_after B (terms_of s) (length xs) c
-  rest-place home ok e n1 n2 n3 n6 n7 =
-      dite (dec_lt home (length xs))
-      (λ m. sym (left-earlier B home xs c m) ∙ rest_other B c (terms_of s) (length xs) (λ o. omega (arith, e, (u.0 o).1)))
-      (λ n. sym (left-digit B home xs c n) ∙ rest-opens B c (terms_of s) (length xs)
-      (u.1 (subst (λ (t : Term). HasPlace (place t)) (sym (term-at s (length xs) h)) has, omega (arith, e, home_no_later (terms_of s) (length xs) below))))
-    where
-      below : length xs < length (terms_of s)
-      below = rw (length-terms s) h
+  pub rest-place : HasPlace (place (term_at s (length xs)))
+      → rest_of_place B (home_of (terms_of s) (length xs)) xs c ≡ rest_after B (terms_of s) (length xs) c
+  rest-place has =
+      let ts = terms_of s in
+      let i = length xs in
+      let below : i < length ts = rw (length-terms s) h in
+      let opens = opens-home ts i below in
+      dite (dec_lt (home_of ts i) i)
+      (λ m. sym (left-earlier B (home_of ts i) xs c m) ∙ rest_other B c ts i (λ o. omega (arith, (opens.0 o).1)))
+      (λ n. sym (left-digit B (home_of ts i) xs c n) ∙ rest-opens B c ts i
+      (opens.1 (subst (λ (t : Term). HasPlace (place t)) (sym (term-at s i h)) has, omega (arith, home_no_later ts i below))))
 
-      u : Opens (terms_of s) (length xs) ↔ (HasPlace (place (term (terms_of s) (length xs))) × (home_of (terms_of s) (length xs) ≡ length xs))
-      u = opens-home (terms_of s) (length xs) below
-
-      has : HasPlace (place (term_at s (length xs)))
-      has =
-          by_kind (λ k t. k < 8 → ¬ (k ≡ 1) → ¬ (k ≡ 2) → ¬ (k ≡ 3) → ¬ (k ≡ 6) → ¬ (k ≡ 7) → HasPlace (place t))
-          (a_at s (length xs)) (b_at s (length xs)) (λ _ _ _ _ _ _. tt) (λ _ n _ _ _ _. absurd (n refl)) (λ _ _ n _ _ _. absurd (n refl))
-          (λ _ _ _ n _ _. absurd (n refl)) (λ _ _ _ _ _ _. tt) (λ _ _ _ _ _ _. tt) (λ _ _ _ _ n _. absurd (n refl))
-          (λ _ _ _ _ _ n. absurd (n refl)) (λ k g l _ _ _ _ _. absurd (omega arith)) (kind_at s (length xs))
-          (described-kind (length xs) (kind_at s (length xs)) (a_at s (length xs)) (b_at s (length xs)) (ok (length xs) h)) n1 n2 n3 n6 n7
-
--- where it is quantified, it opens a place, and so has the digit and takes it off
-module _ (s xs : List ℕ) (h : length xs < term_count s) (low : 4 ≤ kind_at s (length xs)) (high : kind_at s (length xs) ≤ 5) where
-  quantified-opens : Opens (terms_of s) (length xs)
-  quantified-opens = go (quantifier_of (kind_at s (length xs))) (quantified-term s (length xs) h low high)
-    where
-      go : (q : Quantifier) → term (terms_of s) (length xs) ≡ quantified q (a_at s (length xs)) (b_at s (length xs)) → Opens (terms_of s) (length xs)
-      go existential e = rw e tt
-      go universal e = rw e tt
-
-  pub grade-quantified : (l : Logic) (d home : ℕ) → home ≡ home_of (terms_of s) (length xs) → d ≡ next_grade l d home s xs
-  unfolding next_grade
-  grade-quantified l d home e =
-      place-digit d home xs (λ m. omega (arith, e, home-opens (terms_of s) (length xs) (rw (length-terms s) h) quantified-opens))
-      ∙ go (quantifier_of (kind_at s (length xs))) (sym (term-at s (length xs) h) ∙ quantified-term s (length xs) h low high)
-    where
-      go : (q : Quantifier) → term_at s (length xs) ≡ quantified q (a_at s (length xs)) (b_at s (length xs)) → grade_of_place d home xs ≡ in_table l d home s xs (term_at s (length xs))
-      go existential e = rw e refl
-      go universal e = rw e refl
-
-  pub rest-quantified : (B c : ℕ) → c / B ≡ rest_after B (terms_of s) (length xs) c
-  rest-quantified B c = rest-opens B c (terms_of s) (length xs) quantified-opens
+-- a quantified term has a place
+pub quantified_place : (q : Quantifier) (r c : ℕ) → HasPlace (place (quantified q r c))
+quantified_place existential r c = tt
+quantified_place universal r c = tt
 
 -- ---- a row, one grade after the other
 
@@ -218,27 +196,28 @@ module _ (l : Logic) (s : List ℕ) (r : ℕ) (own child : ℕ → ℕ) (g i : �
   Γ = grading l (terms_of s)
 
   -- a term of another kind asks nothing
-  pub allows-kind : (kind_at s i < 4) ⊎ (5 < kind_at s i) → TermAllows Γ r own child g i
-  allows-kind n q t x e f = absurd (other_term s i h n q t x e)
+  pub allows-other : (t : Value) → as_term t ≡ term_at s i → ((q : ValueQuantifier) (x y : ℕ) → ¬ (t ≡ Quantified q x y)) → TermAllows Γ r own child g i
+  allows-other t e n p x y f _ = absurd (case_at (λ _ _ _. ⊥) (as_term t) (go t n) p x y (e ∙ sym (term-at s i h) ∙ f))
+    where
+      go : (v : Value) → ((q : ValueQuantifier) (x y : ℕ) → ¬ (v ≡ Quantified q x y)) → Case (λ _ _ _. ⊥) (as_term v)
+      go (Name a) n = tt
+      go (Not c) n = tt
+      go (And c d) n = tt
+      go (Or c d) n = tt
+      go (Quantified q z c) n = absurd (n q z c refl)
+      go Top n = tt
+      go Bottom n = tt
 
-  module _ (low : 4 ≤ kind_at s i) (high : kind_at s i ≤ 5) where
-    is : (q : Quantifier) (t x : ℕ) → term (terms_of s) i ≡ quantified q t x → (quantifier_of (kind_at s i) ≡ q) × (a_at s i ≡ t) × (b_at s i ≡ x)
-    is q t x e = quantified_alike (quantifier_of (kind_at s i)) q (a_at s i) t (b_at s i) x (sym (quantified-term s i h low high) ∙ e)
+  -- a quantified term asks one thing, and that only if it is of a role that bounds the link
+  module _ (q : Quantifier) (x y : ℕ) (e : quantified q x y ≡ term_at s i) where
+    pub allows-role : ¬ Governs Γ x r → TermAllows Γ r own child g i
+    allows-role n p z w f o =
+        absurd (n (subst (λ (v : ℕ). Governs Γ v r) (sym (quantified_alike q p x z y w (e ∙ sym (term-at s i h) ∙ f)).1) o))
 
-    pub child-below : TermsRight s → b_at s i < i
-    child-below ok =
-        child_lt (terms_of s) (terms-ordered s ok) i (rw (length-terms s) h) (quantifier_of (kind_at s i)) (a_at s i) (b_at s i) (quantified-term s i h low high)
-
-    -- nor does one of a role that does not bound the link
-    pub allows-role : ¬ Governs Γ (a_at s i) r → TermAllows Γ r own child g i
-    allows-role n q t x e f = absurd (n (subst (λ (z : ℕ). Governs Γ z r) (sym (is q t x e).1) f))
-
-    -- and a quantified term of such a role asks one thing
-    pub allows-quantified : (b : Bool) → Governs Γ (a_at s i) r → Tells b (Permits (connectives_of l) (quantifier_of (kind_at s i)) g (child (b_at s i)) (own i))
-        → Tells b (TermAllows Γ r own child g i)
-    allows-quantified b f =
+    pub allows-quantified : (b : Bool) → Governs Γ x r → Tells b (Permits (connectives_of l) q g (child y) (own i)) → Tells b (TermAllows Γ r own child g i)
+    allows-quantified b o =
         tells_map b
-        (λ a q t x e _. let u = is q t x e in
-        subst (λ (z : Quantifier). Permits (connectives_of l) z g (child x) (own i)) u.0
-        (subst (λ (z : ℕ). Permits (connectives_of l) (quantifier_of (kind_at s i)) g (child z) (own i)) u.2 a))
-        (λ a. a (quantifier_of (kind_at s i)) (a_at s i) (b_at s i) (quantified-term s i h low high) f)
+        (λ a p z w f _. let u = quantified_alike q p x z y w (e ∙ sym (term-at s i h) ∙ f) in
+        subst (λ (v : Quantifier). Permits (connectives_of l) v g (child w) (own i)) u.0
+        (subst (λ (v : ℕ). Permits (connectives_of l) q g (child v) (own i)) u.2 a))
+        (λ a. a q x y (term-at s i h ∙ sym e) o)

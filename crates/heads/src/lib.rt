@@ -10,15 +10,12 @@ use encoding::word;
 
 // ---- what the edition says
 
-// `second` in edition 2, and `other` otherwise.
+// `second` in edition 2, and `other` otherwise. The edition stays a byte: the head's length is asked for before check 2 looks at it.
 fn by_edition(b: &[u8], second: usize, other: usize) -> usize
     requires { 0 < length b.now }
     ensures { result ≡ by_edition (edition b.now) second other }
 {
-    if b[0] == 2 {
-        return second;
-    }
-    other
+    if b[0] == 2 { second } else { other }
 }
 
 // How long the head is.
@@ -35,10 +32,7 @@ pub fn count_pairs(b: &[u8]) -> usize
     ensures value { result ≡ count_of_pairs b.now }
     ensures upper_bound { result < 65536 }
 {
-    if b[0] == 2 {
-        return word(b, 20);
-    }
-    0
+    if b[0] == 2 { word(b, 20) } else { 0 }
 }
 
 // ---- the checks 1 to 4
@@ -46,52 +40,33 @@ pub fn count_pairs(b: &[u8]) -> usize
 pub fn length_right(b: &[u8]) -> bool
     ensures { Tells result (LengthRight b.now) }
 {
-    let length = b.len();
-    if length == 0 {
+    if b.is_empty() {
         return false;
     }
-    if length < head_of(b) {
-        return false;
-    }
-    length <= by_edition(b, 982, 850)
+    head_of(b) <= b.len() && b.len() <= by_edition(b, 982, 850)
 }
 
 pub fn edition_right(b: &[u8]) -> bool
     requires { Headed b.now }
     ensures { Tells result (EditionRight b.now) }
 {
-    if b[0] == 1 {
-        return true;
-    }
-    b[0] == 2
+    b[0] == 1 || b[0] == 2
 }
 
 pub fn steps_right(b: &[u8]) -> bool
     requires { Headed b.now }
     ensures { Tells result (StepsRight b.now) }
 {
-    let n = b[1];
-    if n < 1 {
-        return false;
-    }
-    n <= 8
+    matches!(b[1], 1..=8)
 }
 
 pub fn counts_right(b: &[u8]) -> bool
     requires { Headed b.now }
     ensures { Tells result (CountsRight b.now) }
 {
-    if 64 < word(b, 4) {
-        return false;
-    }
-    if 64 < word(b, 8) {
-        return false;
-    }
-    if 64 < word(b, 12) {
-        return false;
-    }
-    if 64 < word(b, 16) {
-        return false;
-    }
-    count_pairs(b) <= 64
+    word(b, 4) <= 64
+        && word(b, 8) <= 64
+        && word(b, 12) <= 64
+        && word(b, 16) <= 64
+        && count_pairs(b) <= 64
 }

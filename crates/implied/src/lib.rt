@@ -16,6 +16,7 @@ ghost use Rattle.implied.specs.Implying.{table_size, implied_questions, implied_
 
 use book::Opened;
 use counter::Counted;
+use grades::Grader;
 use layout::Sections;
 
 // The number of the first check that says no, or the number of survivors.
@@ -35,13 +36,8 @@ fn fill_checked(b: &[u8], s: Sections, count: usize, marks: &mut [u8], table: &m
     ensures table_after { table.new ≡ implied_table (book_of b.now).grading (survivors_of (book_of b.now)) ++ drop (table_size (book_of b.now)) table.old }
 {
     let survivors = outcomes::mark_checked(b, s, count, marks);
-    subsumption::fill_table(
-        layout::terms_in(b, s),
-        book::logic_in(b, s),
-        marks,
-        count,
-        table,
-    );
+    let grader = Grader::new(layout::terms_in(b, s), book::logic_in(b, s));
+    subsumption::fill_table(&grader, marks, count, table);
     survivors
 }
 

@@ -25,6 +25,7 @@ pub struct Sections {
 // ---- check 5
 
 // Where the bodies stand, by their counts: each right after the one before.
+#[tactic(auto, using(heads::proofs::Editions::head_bounds))]
 pub fn sections_of(b: &[u8]) -> Sections
     requires { Headed b.now }
     ensures { result ≡ sections_of b.now }
@@ -47,36 +48,24 @@ pub fn sections_of(b: &[u8]) -> Sections
 }
 
 // Does a fifth entry, where there is one, say that the pairs begin at `start`?
+#[tactic(auto, using(heads::proofs::Editions::head_second))]
 fn pairs_placed(b: &[u8], start: usize) -> bool
     requires { Headed b.now }
     ensures { Tells result (edition b.now ≡ 2 → offset_at b.now 4 ≡ start) }
 {
-    if b[0] != 2 {
-        return true;
-    }
-    word(b, 18) == start
+    b[0] != 2 || word(b, 18) == start
 }
 
 pub fn laid_out(b: &[u8], s: Sections) -> bool
     requires { Headed b.now }
     ensures { Tells result (LaidOut b.now s) }
 {
-    if word(b, 2) != s.terms {
-        return false;
-    }
-    if word(b, 6) != s.rules {
-        return false;
-    }
-    if word(b, 10) != s.memberships {
-        return false;
-    }
-    if word(b, 14) != s.links {
-        return false;
-    }
-    if !pairs_placed(b, s.pairs) {
-        return false;
-    }
-    b.len() == s.end
+    word(b, 2) == s.terms
+        && word(b, 6) == s.rules
+        && word(b, 10) == s.memberships
+        && word(b, 14) == s.links
+        && pairs_placed(b, s.pairs)
+        && b.len() == s.end
 }
 
 // ---- each section, as the stretch that its entry names
@@ -85,45 +74,35 @@ pub fn terms_in(b: &[u8], s: Sections) -> &[u8]
     requires { InOrder b.now s }
     ensures { result.now ≡ term_bytes b.now s }
 {
-    let start = s.terms;
-    let end = s.rules;
-    &b[start..end]
+    &b[s.terms..s.rules]
 }
 
 pub fn rules_in(b: &[u8], s: Sections) -> &[u8]
     requires { InOrder b.now s }
     ensures { result.now ≡ rule_bytes b.now s }
 {
-    let start = s.rules;
-    let end = s.memberships;
-    &b[start..end]
+    &b[s.rules..s.memberships]
 }
 
 pub fn memberships_in(b: &[u8], s: Sections) -> &[u8]
     requires { InOrder b.now s }
     ensures { result.now ≡ membership_bytes b.now s }
 {
-    let start = s.memberships;
-    let end = s.links;
-    &b[start..end]
+    &b[s.memberships..s.links]
 }
 
 pub fn links_in(b: &[u8], s: Sections) -> &[u8]
     requires { InOrder b.now s }
     ensures { result.now ≡ link_bytes b.now s }
 {
-    let start = s.links;
-    let end = s.pairs;
-    &b[start..end]
+    &b[s.links..s.pairs]
 }
 
 pub fn pairs_in(b: &[u8], s: Sections) -> &[u8]
     requires { InOrder b.now s }
     ensures { result.now ≡ pair_bytes b.now s }
 {
-    let start = s.pairs;
-    let end = s.end;
-    &b[start..end]
+    &b[s.pairs..s.end]
 }
 
 // The number of terms.

@@ -3,14 +3,20 @@
 use mathlib.Core.Path.{◌≡◌, refl, sym, ap, subst, ◌∙◌}
 use mathlib.Core.Logic.{◌⊎◌, inl, inr, ⊎_elim, dite}
 use mathlib.Core.List.{List}
-use Prim.Native.Nat.{ℕ, ◌+◌, ◌*◌, ◌≤◌, ◌<◌}
-use native.Mathlib.Decide.{ℕ_discrete}
+use Prim.Native.Nat.{ℕ, ◌+◌, ◌*◌, ◌≤◌, ◌<◌, max}
+use native.Mathlib.Decide.{ℕ_discrete, dec_lt}
 use native.Mathlib.Omega.{arith}
 use lib.ListN.{length, get_or, set}
-use lib.Seq.{get_or-set_same, get_or-set_other}
+use lib.Seq.{get_or-set_same, get_or-set_other, set-get_or}
 use Rattle.claims.specs.Claims.{claim_count, link_at, LinksRight}
 use Rattle.gradings.specs.declared.Logic.{Logic}
 use Rattle.levels.specs.Levels.{pair_of, Bounds, level_at, ClaimsRanged, LevelsBy, LevelsOf, LevelsUpTo, NotedFor}
+
+-- the greater of two is put there
+pub noted-max : (l : Logic) (t r g at : ℕ) (old : List ℕ) → Bounds l t r → NotedFor l t r g at old (set old at (max (get_or old at 0) g))
+noted-max l t r g at old b =
+    dite (dec_lt (get_or old at 0) g) (λ h. let e : max (get_or old at 0) g ≡ g = omega arith in inr (b, inr (h, ap (set old at) e)))
+    (λ n. let e : max (get_or old at 0) g ≡ get_or old at 0 = omega arith in inr (b, inl (omega arith, ap (set old at) e ∙ set-get_or old at 0)))
 
 module _ (l : Logic) (ls : List ℕ) where
   pub levels_none : (levels : List ℕ) → ((z : ℕ) → get_or levels z 0 ≡ 0) → LevelsOf l ls 0 levels
@@ -100,13 +106,10 @@ module _ (l : Logic) (ls : List ℕ) where
             (λ n. let o = get_or-set_other old at (64 * t + x) g 0 n in
             let w = of.some t x ht hx (rw o at u) in (w.0, more w.0 t w.1, w.2, w.3, w.4 ∙ sym o))
 
-    pub levels_noted : (z : ℕ) → z ≡ at → (new : List ℕ) → 512 ≤ length old → NotedFor l b (link_at ls k).role g z old new → LevelsUpTo l ls k (b + 1) new
-    levels_noted z e new long h = go (subst (λ (x : ℕ). NotedFor l b (link_at ls k).role g x old new) e h)
-      where
-        go : NotedFor l b (link_at ls k).role g at old new → LevelsUpTo l ls k (b + 1) new
-        go (inl (n, e)) = subst (LevelsUpTo l ls k (b + 1)) (sym e) (kept (λ c. absurd (n c)))
-        go (inr (c, inl (h, e))) = subst (LevelsUpTo l ls k (b + 1)) (sym e) (kept (λ _. h))
-        go (inr (c, inr (h, e))) = subst (LevelsUpTo l ls k (b + 1)) (sym e) (raised long c h)
+    pub levels_noted : (new : List ℕ) → 512 ≤ length old → NotedFor l b (link_at ls k).role g at old new → LevelsUpTo l ls k (b + 1) new
+    levels_noted new long (inl (n, e)) = subst (LevelsUpTo l ls k (b + 1)) (sym e) (kept (λ c. absurd (n c)))
+    levels_noted new long (inr (c, inl (h, e))) = subst (LevelsUpTo l ls k (b + 1)) (sym e) (kept (λ _. h))
+    levels_noted new long (inr (c, inr (h, e))) = subst (LevelsUpTo l ls k (b + 1)) (sym e) (raised long c h)
 
   -- levels are on the chain
   pub levels_le : (levels : List ℕ) (N : ℕ) → LinksRight ls N → LevelsOf l ls (claim_count ls) levels → (t x : ℕ) → t < 8 → x < 64 → level_at levels t x ≤ N

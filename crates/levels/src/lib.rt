@@ -4,28 +4,25 @@
 #![tactic(auto)]
 
 ghost use Rattle.std.specs.Prelude.{◌≡◌, ℕ, ◌+◌, ◌*◌, ◌<◌, ◌≤◌, length, get_or, take};
-ghost use Rattle.claims.specs.Claims.{claim_count};
+ghost use Rattle.claims.specs.Claims.{claim_count, link_of};
 ghost use Rattle.slots.specs.Slots.{slot_count};
 ghost use Rattle.slots.specs.Rows.{TermsBelow, SlotRow};
 ghost use Rattle.grades.specs.Rows.{entry};
 ghost use Rattle.levels.specs.Rows.{row_at};
-ghost use Rattle.levels.specs.Levels.{ClaimsRanged, LevelsOf, NotedFor};
+ghost use Rattle.levels.specs.Levels.{pair_of, ClaimsRanged, LevelsOf, NotedFor};
 
-use claims::link_claim_at;
-use encoding::wide;
-use gradings::{Logic, governs};
+use claims::{LinkRecord, link_claim_at};
+use gradings::Logic;
 use slots::put_slot_row;
 
 // ---- a table of rows of slots, 32 bytes each
 
-// Row `k`.
+// Row `k`. The twin of `grades::row_at`, of another width: one line, which a function over both would not make plainer.
 pub fn row_at(rows: &[u8], k: usize) -> &[u8]
     requires { 32 * k + 32 ≤ length rows.now }
     ensures { result.now ≡ row_at rows.now k }
 {
-    let start = 32 * k;
-    let end = start + 32;
-    &rows[start..end]
+    &rows[32 * k..32 * k + 32]
 }
 
 // Makes the row of the slots row `k`, from the row of all grades. Those before it stay.
@@ -34,23 +31,20 @@ pub fn put_row(slots: &[u8], row: &[u8], rows: &mut [u8], k: usize)
     ensures rows_unchanged { take (32 * k) rows.new ≡ take (32 * k) rows.old }
     ensures slot_row { SlotRow slots.now (entry row.now) (row_at rows.new k) }
 {
-    let start = 32 * k;
-    let end = start + 32;
-    put_slot_row(slots, row, &mut rows[start..end]);
+    put_slot_row(slots, row, &mut rows[32 * k..32 * k + 32]);
 }
 
 // ---- the strongest claim that each role's terms bound, for each pair
 
-// Notes for the role `t` a claim of this role and grade; `at` is where the level of `t` and the claim's pair stands.
-fn note_for(logic: Logic, t: u8, role: u8, grade: u8, levels: &mut [u8], at: usize)
-    requires { at < length levels.old }
-    ensures { NotedFor logic t role grade at levels.old levels.new }
+// Notes a claim for the role `t`.
+fn note_for(logic: Logic, t: u8, claim: LinkRecord, levels: &mut [u8])
+    requires { 64 * t + pair_of (link_of claim) < length levels.old }
+    ensures { NotedFor logic t claim.role claim.grade (64 * t + pair_of (link_of claim)) levels.old levels.new }
 {
-    if !governs(logic, t, role) {
-        return;
-    }
-    if levels[at] < grade {
-        levels[at] = grade;
+    if logic.governs(t, claim.role) {
+        let pair = 8 * usize::from(claim.source) + usize::from(claim.target);
+        let at = 64 * usize::from(t) + pair;
+        levels[at] = levels[at].max(claim.grade);
     }
 }
 
@@ -61,18 +55,8 @@ fn note_claim(logic: Logic, links: &[u8], i: usize, levels: &mut [u8])
     ensures { LevelsOf logic links.now (i + 1) levels.new }
 {
     let claim = link_claim_at(links, i);
-    let pair = 8 * wide(claim.source) + wide(claim.target);
-    let mut t = 0;
-    while t < 8 {
-        note_for(
-            logic,
-            t,
-            claim.role,
-            claim.grade,
-            levels,
-            64 * wide(t) + pair,
-        );
-        t += 1;
+    for t in 0..8 {
+        note_for(logic, t, claim, levels);
     }
 }
 
@@ -81,10 +65,7 @@ pub fn note_claims(logic: Logic, links: &[u8], levels: &mut [u8])
     requires { ClaimsRanged links.now × (512 ≤ length levels.old) × ((z : ℕ) → get_or levels.old z 0 ≡ 0) }
     ensures { LevelsOf logic links.now (claim_count links.now) levels.new }
 {
-    let count = links.len() / 4;
-    let mut i = 0;
-    while i < count {
+    for i in 0..links.len() / 4 {
         note_claim(logic, links, i, levels);
-        i += 1;
     }
 }

@@ -1,16 +1,11 @@
 -- Laws of a list that code fills from the front, stretch by stretch.
 -- Assumes nothing.
 use mathlib.Core.Path.{◌≡◌, refl, ◌∙◌}
-use mathlib.Core.List.{List, [], ◌++◌, flat_map, append-nil, append_assoc}
-use Prim.Native.Nat.{ℕ, ◌+◌, ◌*◌, ◌-◌, ◌≤◌}
-use native.Mathlib.Nat.{zero-add, suc-mul}
-use native.Mathlib.Numerals.{add-one}
+use mathlib.Core.List.{List, [], ◌++◌, append-nil, append_assoc}
+use Prim.Native.Nat.{ℕ, ◌+◌, ◌-◌, ◌≤◌}
 use native.Mathlib.Omega.{arith}
 use lib.ListN.{length, take, drop, length-append, length-drop, length-take}
 use lib.Seq.{take_at, drop_at, drop-drop, drop-length, sets, sets-eq}
-use Rattle.chain.specs.Lists.{from}
-use Rattle.chain.proofs.Lists.{flat_map-more}
-use Rattle.chain.proofs.Blocks.{length_blocks}
 
 -- what a list becomes when its stretch from a up to c is written anew
 abbrev pub pasted : List ℕ → (a c : ℕ) → List ℕ → List ℕ
@@ -39,15 +34,6 @@ pub stored : (vs l : List ℕ) → length l ≡ length vs → sets l 0 vs ≡ vs
 stored vs l e =
     let h : 0 + length vs ≡ length l = omega arith in
     sets-eq vs l 0 (omega arith) ∙ rw (h, drop-length) (append-nil vs)
-
--- ---- blocks of one width
-
-module _ (f : ℕ → List ℕ) (w : ℕ) (wide : (x : ℕ) → length (f x) ≡ w) where
-  pub blocks_next : (k : ℕ) (l d part : List ℕ) → l ≡ flat_map f (from 0 k) ++ drop (k * w) d → part ≡ f k
-      → pasted l (k * w) (k * w + w) part ≡ flat_map f (from 0 (k + 1)) ++ drop ((k + 1) * w) d
-  blocks_next k l d part e h =
-      paste_next (flat_map f (from 0 k)) d l part (k * w) (k * w + w) e (length_blocks f w wide 0 k) (omega arith)
-      ∙ rw (h, add-one k, flat_map-more f 0 k, zero-add k, suc-mul k w)
 
 -- all of it filled
 pub whole : (b d l : List ℕ) (n : ℕ) → l ≡ b ++ drop n d → length d ≡ n → l ≡ b

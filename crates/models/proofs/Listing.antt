@@ -10,6 +10,8 @@ use native.Mathlib.Numerals.{add-one}
 use native.Mathlib.Omega.{arith}
 use lib.ListN.{length, get_or, set, length-append}
 use lib.Seq.{take-suc-set}
+use Rattle.std.specs.declared.option.Option.{Option}
+use Rattle.std.specs.declared.option.Option.TheVariants.{None, Some}
 use Rattle.chain.specs.Search.{First, first}
 use Rattle.chain.specs.Lists.{keep, from, index}
 use Rattle.chain.proofs.Search.{below_cases}
@@ -130,3 +132,8 @@ module _ (xs : List ℕ) (x : ℕ) where
   pub index_missed : ((k : ℕ) → k < length xs → ¬ (get_or xs k 0 ≡ x)) → 0 ≡ index xs x
   unfolding index
   index_missed h = first_missed (λ i. ℕ_discrete (get_or xs i 0) x) (length xs) (λ i. i) 0 (first (λ i. ℕ_discrete (get_or xs i 0) x) (length xs)) h
+
+-- by cases on an option
+pub each_option : {A X : Type 0} (r : Option A) → (r ≡ None → X) → ((x : A) → r ≡ Some x → X) → X
+each_option None n s = n refl
+each_option (Some x) n s = s x refl

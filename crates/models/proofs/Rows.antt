@@ -15,8 +15,12 @@ use Rattle.chain.proofs.Lists.{length-table}
 use Rattle.semantics.specs.Terms.{Term, name, term}
 use Rattle.semantics.specs.Interpretations.{Grading, Agree}
 use Rattle.types.specs.Candidates.{named?, bearer, grade_in}
-use Rattle.sections.specs.Terms.{kind_at, a_at, term_count, terms_of, TermsRight}
-use Rattle.sections.proofs.Terms.{term-kind, term-at, terms-ordered, name-bytes}
+use Rattle.sections.specs.Terms.{term_at, term_count, terms_of, TermsRight}
+use Rattle.sections.specs.Values.{as_term}
+use Rattle.sections.specs.declared.Quantifier.TheVariants.{Existential, Universal}
+use Rattle.sections.specs.declared.Term.{Term as Value}
+use Rattle.sections.specs.declared.Term.TheVariants.{Name, Not, And, Or, Quantified, Top, Bottom}
+use Rattle.sections.proofs.Terms.{term-at, terms-ordered}
 use Rattle.gradings.specs.Gradings.{grading}
 use Rattle.gradings.specs.declared.Logic.{Logic}
 use Rattle.grades.specs.Rows.{row_at}
@@ -31,16 +35,28 @@ use Rattle.models.specs.Rows.{Small, model_of, HoldsRows, name_in, link_in, rows
 use Rattle.models.proofs.Listing.{first_found, first_missed}
 use Rattle.models.proofs.Filling.{pasted, paste_four}
 
--- ---- a term with a name, by its bytes
+-- ---- a term that is a name
 
-module _ (s : List ℕ) (ok : TermsRight s) (i a : ℕ) (h : i < term_count s) where
-  pub name-not : ¬ (kind_at s i ≡ 0) → ¬ (term (terms_of s) i ≡ name a)
-  name-not n e = n (name-bytes s ok i a h e).0
+module _ (s : List ℕ) (i a : ℕ) (h : i < term_count s) where
+  pub name_tells : (b x : ℕ) → name b ≡ term_at s i → x ≡ b → Tells (eqb x a) (term (terms_of s) i ≡ name a)
+  name_tells b x t q =
+      tells_map (eqb x a) (λ e. term-at s i h ∙ sym t ∙ ap name (sym q ∙ e)) (λ e. q ∙ same (t ∙ sym (term-at s i h) ∙ e)) (tells_eq x a)
+    where
+      same : name b ≡ name a → b ≡ a
+      same e = cc
 
-  pub name_tells : (x : ℕ) → kind_at s i ≡ 0 → x ≡ a_at s i → Tells (eqb x a) (term (terms_of s) i ≡ name a)
-  name_tells x k q =
-      tells_map (eqb x a) (λ e. term-at s i h ∙ term-kind s i 0 k ∙ ap name (sym q ∙ e))
-      (λ e. q ∙ (name-bytes s ok i a h e).1) (tells_eq x a)
+  pub name-other : (t : Value) → as_term t ≡ term_at s i → ((b : ℕ) → ¬ (t ≡ Name b)) → ¬ (term (terms_of s) i ≡ name a)
+  name-other t e n f = go t n (e ∙ sym (term-at s i h) ∙ f)
+    where
+      go : (v : Value) → ((b : ℕ) → ¬ (v ≡ Name b)) → ¬ (as_term v ≡ name a)
+      go (Name b) n _ = n b refl
+      go (Not c) _ f = cc
+      go (And c d) _ f = cc
+      go (Or c d) _ f = cc
+      go (Quantified Existential r c) _ f = cc
+      go (Quantified Universal r c) _ f = cc
+      go Top _ f = cc
+      go Bottom _ f = cc
 
 -- ---- a name's grade in a row
 

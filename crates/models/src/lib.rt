@@ -6,18 +6,19 @@ ghost use Rattle.std.specs.Prelude.{◌≡◌, ◌++◌, ◌+◌, ◌*◌, ◌<�
 ghost use Rattle.chain.specs.Decisions.{Tells};
 ghost use Rattle.chain.specs.Lists.{table, index};
 ghost use Rattle.semantics.specs.Terms.{term, name};
-ghost use Rattle.sections.specs.Terms.{term_count, terms_of, TermsRight};
+ghost use Rattle.sections.specs.Terms.{term_count, terms_of};
 ghost use Rattle.gradings.specs.Gradings.{grading};
 ghost use Rattle.shapes.specs.Layout.{end_at};
 ghost use Rattle.sheets.specs.Writing.{shape_for, sheet_bytes};
 ghost use Rattle.elimination.specs.Marks.{marked};
 ghost use Rattle.models.specs.Listing.{Lists};
+ghost use Rattle.grades.specs.Rows.{row_at};
 ghost use Rattle.models.specs.Rows.{Small, model_of, HoldsRows, name_in, link_in, rows_in, names_by, square_by, links_by, head_by};
 
-use encoding::{wide, write_word};
-use grades::{put_row, row_at};
-use gradings::Logic;
-use places::find_homes;
+use encoding::write_word;
+use filling::{fill_blocks, fill_each};
+use grades::{Grader, row_at};
+use sections::{Term, term_at};
 use shapes::Shape;
 
 // ---- the marked candidates
@@ -41,145 +42,109 @@ pub fn list_marked(marks: &[u8], count: usize, types: &mut [u16]) -> usize
     ensures { (result ≡ length (marked marks.now count)) × (take result types.new ≡ marked marks.now count) }
 {
     let mut found = 0;
-    let mut c = 0;
-    while c < count {
+    for c in 0..count {
         found = list_next(marks, c, types, found);
-        c += 1;
     }
     found
 }
 
 // ---- the rows of the listed types
 
-// A candidate as a number to count with.
-fn number(c: u16) -> usize
-    ensures { (result ≡ c) × (result < 65536) }
-{
-    c as usize
-}
-
 // Fills the table with the rows of the candidates in `types`, 64 grades each.
-fn fill_rows(terms: &[u8], logic: Logic, types: &[u16], rows: &mut [u8])
-    requires terms_right { TermsRight terms.now }
-    requires terms_bound { (term_count terms.now ≤ 64) × (length types.now ≤ 64) × (4096 ≤ length rows.old) }
-    ensures { HoldsRows (grading logic (terms_of terms.now)) types.now (length types.now) rows.new }
+fn fill_rows(grader: &Grader, types: &[u16], rows: &mut [u8])
+    requires { (length types.now ≤ 64) × (4096 ≤ length rows.old) }
+    ensures { HoldsRows (grading grader.now.logic (terms_of grader.now.terms.now)) types.now (length types.now) rows.new }
 {
-    let homes = find_homes(terms);
-    let mut e = 0;
-    while e < types.len() {
-        put_row(terms, logic, number(types[e]), rows, e, &homes);
-        e += 1;
+    for e in 0..types.len() {
+        grader.put_row(usize::from(types[e]), rows, e);
     }
 }
 
 // ---- the names
 
-fn is_name(terms: &[u8], i: usize, a: usize) -> bool
-    requires terms_right { TermsRight terms.now }
-    requires i_bound { i < term_count terms.now }
-    ensures { Tells result (term (terms_of terms.now) i ≡ name a) }
+fn is_name(grader: &Grader, i: usize, a: usize) -> bool
+    requires is_term { i < term_count grader.now.terms.now }
+    ensures { Tells result (term (terms_of grader.now.terms.now) i ≡ name a) }
 {
-    if terms[3 * i] != 0 {
-        return false;
+    match term_at(grader.terms, i) {
+        Term::Name(b) => usize::from(b) == a,
+        _ => false,
     }
-    wide(terms[3 * i + 1]) == a
 }
 
 // The grade of name `a` in a row: that of the term which has the name, or 0.
-fn name_grade(terms: &[u8], a: usize, row: &[u8]) -> u8
-    requires terms_right { TermsRight terms.now }
-    requires terms_in_bounds { term_count terms.now ≤ length row.now }
-    ensures { result ≡ name_in (terms_of terms.now) a row.now }
+fn name_grade(grader: &Grader, a: usize, row: &[u8]) -> u8
+    requires row_long { term_count grader.now.terms.now ≤ length row.now }
+    ensures { result ≡ name_in (terms_of grader.now.terms.now) a row.now }
 {
-    let count = terms.len() / 3;
-    let mut i = 0;
-    while i < count {
-        if is_name(terms, i, a) {
-            return row[i];
-        }
-        i += 1;
-    }
-    0
+    (0..grader.terms.len() / 3)
+        .find(|&i| is_name(grader, i, a))
+        .map_or(0, |i| row[i])
 }
 
-fn write_name_row(terms: &[u8], row: &[u8], body: &mut [u8])
-    requires terms_right { TermsRight terms.now }
-    requires terms_in_bounds { term_count terms.now ≤ length row.now }
-    ensures { body.new ≡ table (λ a. name_in (terms_of terms.now) a row.now) (length body.old) }
+// Writes the grades of the names at element `e`.
+fn write_name_row(grader: &Grader, rows: &[u8], e: usize, body: &mut [u8])
+    requires e_bound { (e < 64) × (4096 ≤ length rows.now) }
+    ensures { body.new ≡ table (λ a. name_in (terms_of grader.now.terms.now) a (row_at rows.now e)) (length body.old) }
 {
-    let mut a = 0;
-    while a < body.len() {
-        body[a] = name_grade(terms, a, row);
-        a += 1;
-    }
+    let row = row_at(rows, e);
+    fill_each(body, |a| name_grade(grader, a, row));
 }
 
 // Writes the rows of `n` elements, `names` grades each.
-fn write_names(terms: &[u8], names: usize, rows: &[u8], n: usize, body: &mut [u8])
-    requires terms_right { TermsRight terms.now }
-    requires terms_bound { (term_count terms.now ≤ 64) × (n ≤ 64) × (4096 ≤ length rows.now) × (length body.old ≡ n * names) }
-    ensures { body.new ≡ names_by (terms_of terms.now) rows.now names n }
+fn write_names(grader: &Grader, names: usize, rows: &[u8], n: usize, body: &mut [u8])
+    requires n_bound { (n ≤ 64) × (4096 ≤ length rows.now) }
+    requires exact { length body.old ≡ n * names }
+    ensures { body.new ≡ names_by (terms_of grader.now.terms.now) rows.now names n }
 {
-    let mut e = 0;
-    while e < n {
-        let start = e * names;
-        let end = start + names;
-        write_name_row(terms, row_at(rows, e), &mut body[start..end]);
-        e += 1;
-    }
+    fill_blocks(
+        n,
+        names,
+        body,
+        |e, row| write_name_row(grader, rows, e, row),
+    );
 }
 
 // ---- the links
 
-fn link_at(terms: &[u8], logic: Logic, role: u8, rows: &[u8], e: usize, f: usize) -> u8
-    requires terms_right { TermsRight terms.now }
-    requires terms_bound { (term_count terms.now ≤ 64) × (e < 64) × (f < 64) × (4096 ≤ length rows.now) }
-    ensures { result ≡ link_in logic (terms_of terms.now) rows.now role e f }
+fn link_at(grader: &Grader, role: u8, rows: &[u8], e: usize, f: usize) -> u8
+    requires e_bound { (e < 64) × (f < 64) × (4096 ≤ length rows.now) }
+    ensures { result ≡ link_in grader.now.logic (terms_of grader.now.terms.now) rows.now role e f }
 {
-    row_links::link_of_rows(terms, logic, role, row_at(rows, e), row_at(rows, f))
+    row_links::link_of_rows(grader, role, row_at(rows, e), row_at(rows, f))
 }
 
 // Writes the links of `role` from element `e` to each.
-fn write_link_row(terms: &[u8], logic: Logic, role: u8, rows: &[u8], e: usize, body: &mut [u8])
-    requires terms_right { TermsRight terms.now }
-    requires terms_bound { (term_count terms.now ≤ 64) × (e < 64) × (4096 ≤ length rows.now) × (length body.old ≤ 64) }
-    ensures { body.new ≡ table (λ f. link_in logic (terms_of terms.now) rows.now role e f) (length body.old) }
+fn write_link_row(grader: &Grader, role: u8, rows: &[u8], e: usize, body: &mut [u8])
+    requires e_bound { (e < 64) × (4096 ≤ length rows.now) × (length body.old ≤ 64) }
+    ensures { body.new ≡ table (λ f. link_in grader.now.logic (terms_of grader.now.terms.now) rows.now role e f) (length body.old) }
 {
-    let mut f = 0;
-    while f < body.len() {
-        body[f] = link_at(terms, logic, role, rows, e, f);
-        f += 1;
-    }
+    fill_each(body, |f| link_at(grader, role, rows, e, f));
 }
 
 // Writes the links of `role` between `n` elements.
-fn write_square(terms: &[u8], logic: Logic, role: u8, rows: &[u8], n: usize, body: &mut [u8])
-    requires terms_right { TermsRight terms.now }
-    requires terms_bound { (term_count terms.now ≤ 64) × (n ≤ 64) × (4096 ≤ length rows.now) × (length body.old ≡ n * n) }
-    ensures { body.new ≡ square_by logic (terms_of terms.now) rows.now n role }
+fn write_square(grader: &Grader, role: u8, rows: &[u8], n: usize, body: &mut [u8])
+    requires n_bound { (n ≤ 64) × (4096 ≤ length rows.now) }
+    requires exact { length body.old ≡ n * n }
+    ensures { body.new ≡ square_by grader.now.logic (terms_of grader.now.terms.now) rows.now n role }
 {
-    let mut e = 0;
-    while e < n {
-        let start = e * n;
-        let end = start + n;
-        write_link_row(terms, logic, role, rows, e, &mut body[start..end]);
-        e += 1;
-    }
+    fill_blocks(
+        n,
+        n,
+        body,
+        |e, row| write_link_row(grader, role, rows, e, row),
+    );
 }
 
 // Writes the links of `n` elements for each of `roles`.
-fn write_links(terms: &[u8], logic: Logic, roles: usize, rows: &[u8], n: usize, body: &mut [u8])
-    requires terms_right { TermsRight terms.now }
-    requires terms_bound { (term_count terms.now ≤ 64) × (roles ≤ 8) × (n ≤ 64) × (4096 ≤ length rows.now) × (length body.old ≡ roles * (n * n)) }
-    ensures { body.new ≡ links_by logic (terms_of terms.now) rows.now n roles }
+fn write_links(grader: &Grader, roles: usize, rows: &[u8], n: usize, body: &mut [u8])
+    requires counts_bound { (roles ≤ 8) × (n ≤ 64) × (4096 ≤ length rows.now) }
+    requires exact { length body.old ≡ roles * (n * n) }
+    ensures { body.new ≡ links_by grader.now.logic (terms_of grader.now.terms.now) rows.now n roles }
 {
-    let mut r = 0;
-    while r < roles {
-        let start = r * (n * n);
-        let end = start + n * n;
-        write_square(terms, logic, r as u8, rows, n, &mut body[start..end]);
-        r += 1;
-    }
+    fill_blocks(roles, n * n, body, |r, square| {
+        write_square(grader, r as u8, rows, n, square)
+    });
 }
 
 // ---- the individuals
@@ -189,14 +154,7 @@ fn place_of(types: &[u16], c: u16) -> u8
     requires { length types.now ≤ 64 }
     ensures { result ≡ index types.now c }
 {
-    let mut k = 0;
-    while k < types.len() {
-        if types[k] == c {
-            return k as u8;
-        }
-        k += 1;
-    }
-    0
+    types.iter().position(|&t| t == c).map_or(0, |k| k as u8)
 }
 
 // Writes the element of each individual.
@@ -204,11 +162,7 @@ fn write_seats(types: &[u16], seats: &[u16], body: &mut [u8])
     requires { (length types.now ≤ 64) × (length body.old ≡ length seats.now) }
     ensures { body.new ≡ table (λ j. index types.now (get_or seats.now j 0)) (length seats.now) }
 {
-    let mut j = 0;
-    while j < body.len() {
-        body[j] = place_of(types, seats[j]);
-        j += 1;
-    }
+    fill_each(body, |j| place_of(types, seats[j]));
 }
 
 // ---- the head
@@ -233,62 +187,57 @@ fn write_head(steps: u8, p: Shape, head: &mut [u8])
 
 // ---- the sheet
 
+// What a sheet is written of: the types of its elements, the type at which each individual sits, and how many names and roles it has.
+#[derive(Clone, Copy)]
+pub struct Listed<'a> {
+    pub types: &'a [u16],
+    pub seats: &'a [u16],
+    pub names: usize,
+    pub roles: usize,
+    pub ghost few: { (length types.now ≤ 64) × (length seats.now ≤ 8) × (names ≤ 16) × (roles ≤ 8) },
+}
+
 // Writes the sheet from the rows of the types. The book's own number of steps stands in the head alone.
-fn write_sheet(
-    terms: &[u8],
-    logic: Logic,
-    steps: u8,
-    p: Shape,
-    types: &[u16],
-    seats: &[u16],
-    rows: &[u8],
-    sheet: &mut [u8],
-)
-    requires terms_right { TermsRight terms.now }
-    requires terms_bound { (term_count terms.now ≤ 64) × (4096 ≤ length rows.now) × Small p }
-    requires elements_value { (p.elements ≡ length types.now) × (p.individuals ≡ length seats.now) × (end_at p ≤ length sheet.old) }
-    ensures { sheet.new ≡ sheet_bytes steps p.names p.roles p.individuals (rows_in logic terms.now rows.now types.now seats.now) ++ drop (end_at p) sheet.old }
+fn write_sheet(grader: &Grader, steps: u8, listed: Listed, rows: &[u8], sheet: &mut [u8])
+    requires rows_long { 4096 ≤ length rows.now }
+    requires room { end_at (shape_for steps listed.names listed.roles (length listed.seats.now)
+        (rows_in grader.now.logic grader.now.terms.now rows.now listed.types.now listed.seats.now)) ≤ length sheet.old }
+    ensures { sheet.new ≡ sheet_bytes steps listed.entry.names listed.entry.roles (length listed.entry.seats.now)
+        (rows_in grader.now.logic grader.now.terms.now rows.now listed.entry.types.now listed.entry.seats.now)
+        ++ drop (end_at (shape_for steps listed.entry.names listed.entry.roles (length listed.entry.seats.now)
+        (rows_in grader.now.logic grader.now.terms.now rows.now listed.entry.types.now listed.entry.seats.now))) sheet.old }
 {
+    let p = Shape {
+        elements: listed.types.len(),
+        names: listed.names,
+        roles: listed.roles,
+        individuals: listed.seats.len(),
+    };
     let links = shapes::links_at(p);
     let individuals = shapes::individuals_at(p);
     let end = shapes::end_at(p);
     write_head(steps, p, &mut sheet[0..12]);
-    write_names(terms, p.names, rows, p.elements, &mut sheet[12..links]);
+    write_names(grader, p.names, rows, p.elements, &mut sheet[12..links]);
     write_links(
-        terms,
-        logic,
+        grader,
         p.roles,
         rows,
         p.elements,
         &mut sheet[links..individuals],
     );
-    write_seats(types, seats, &mut sheet[individuals..end]);
+    write_seats(listed.types, listed.seats, &mut sheet[individuals..end]);
 }
 
-// Writes the sheet of the candidates in `types`, with individual j at the type seats[j].
-pub fn write_model(
-    terms: &[u8],
-    logic: Logic,
-    steps: u8,
-    names: usize,
-    roles: usize,
-    types: &[u16],
-    seats: &[u16],
-    sheet: &mut [u8],
-)
-    requires terms_right { TermsRight terms.now }
-    requires types_len_bound { (length types.now ≤ 64) × (term_count terms.now ≤ 64) × (names ≤ 16) × (roles ≤ 8) × (length seats.now ≤ 8) }
-    requires seats_in_bounds { end_at (shape_for steps names roles (length seats.now) (model_of logic terms.now types.now seats.now)) ≤ length sheet.old }
-    ensures { sheet.new ≡ sheet_bytes steps names roles (length seats.now) (model_of logic terms.now types.now seats.now)
-        ++ drop (end_at (shape_for steps names roles (length seats.now) (model_of logic terms.now types.now seats.now))) sheet.old }
+// Writes the sheet of the listed types.
+pub fn write_model(grader: &Grader, steps: u8, listed: Listed, sheet: &mut [u8])
+    requires { end_at (shape_for steps listed.names listed.roles (length listed.seats.now)
+        (model_of grader.now.logic grader.now.terms.now listed.types.now listed.seats.now)) ≤ length sheet.old }
+    ensures { sheet.new ≡ sheet_bytes steps listed.entry.names listed.entry.roles (length listed.entry.seats.now)
+        (model_of grader.now.logic grader.now.terms.now listed.entry.types.now listed.entry.seats.now)
+        ++ drop (end_at (shape_for steps listed.entry.names listed.entry.roles (length listed.entry.seats.now)
+        (model_of grader.now.logic grader.now.terms.now listed.entry.types.now listed.entry.seats.now))) sheet.old }
 {
     let mut rows = [0u8; 4096];
-    fill_rows(terms, logic, types, &mut rows);
-    let p = Shape {
-        elements: types.len(),
-        names: names,
-        roles: roles,
-        individuals: seats.len(),
-    };
-    write_sheet(terms, logic, steps, p, types, seats, &rows, sheet);
+    fill_rows(grader, listed.types, &mut rows);
+    write_sheet(grader, steps, listed, &rows, sheet);
 }

@@ -1,2 +1,2 @@
 pub mod Constraints
-pub mod Network
+pub mod Links

@@ -145,19 +145,19 @@ pub fn verdict_numbers(v: Verdict) -> WorkedNumbers
             element: 0,
             second: 0,
         },
-        Verdict::BreaksRule(number, element) => WorkedNumbers {
+        Verdict::BreaksRule { rule, element } => WorkedNumbers {
             refusal: 0,
             verdict: 1,
-            number,
+            number: rule,
             element,
             second: 0,
         },
-        Verdict::BreaksPair(number, element, second) => WorkedNumbers {
+        Verdict::BreaksPair { pair, from, to } => WorkedNumbers {
             refusal: 0,
             verdict: 4,
-            number,
-            element,
-            second,
+            number: pair,
+            element: from,
+            second: to,
         },
         Verdict::BreaksMembership(number) => WorkedNumbers {
             refusal: 0,

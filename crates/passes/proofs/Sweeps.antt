@@ -3,7 +3,7 @@
 use mathlib.Core.Path.{◌≡◌, refl, sym, subst, ◌∙◌}
 use mathlib.Core.Logic.{dite}
 use mathlib.Core.List.{List}
-use Prim.Native.Nat.{ℕ, ◌+◌, ◌-◌, ◌*◌, ◌≤◌, ◌<◌}
+use Prim.Native.Nat.{ℕ, ◌+◌, ◌-◌, ◌≤◌, ◌<◌}
 use native.Mathlib.Decide.{ℕ_discrete, dec_lt}
 use native.Mathlib.Nat.{le_refl, le_trans}
 use native.Mathlib.Omega.{arith}
@@ -13,8 +13,8 @@ use borrow.Author.Count.{below_more}
 use Rattle.chain.specs.Search.{rank}
 use Rattle.elimination.specs.Marks.{Marked, marked?}
 use Rattle.elimination.proofs.Marks.{marked_lt, marked-set, set-marked, rank_unmarked}
-use Rattle.gradings.specs.declared.Logic.{Logic}
-use Rattle.witness_boxes.specs.Tables.{Tables, tables, Ready}
+use Rattle.zones.specs.Rows.{cell}
+use Rattle.witness_boxes.specs.Tables.{Tables}
 use Rattle.witness_boxes.specs.Search.{Witness, Remembers, Supported}
 use Rattle.passes.specs.Sweeps.{Classes, class_of, SupportedIn, Reduced, Noted, Judged, Dropped, Counted, State, Swept, Settled}
 
@@ -76,19 +76,6 @@ module _ (T : Tables) (present : List ℕ) where
     λ h. let u = marked-set alive a k h in (u.0, λ l m. absurd (u.1 (omega arith))),
     λ h. set-marked alive a k h.0 (λ e. n (subst (Supported T present) e (h.1 (omega arith) (omega arith)))),
   )
-
--- the same tables, where the number of targets is written otherwise
-module _ (lg : Logic) (sources m n : ℕ) (slots own child : List ℕ) (e : m ≡ n) where
-  pub ready_sized : Ready (tables lg sources m slots own child) → Ready (tables lg sources n slots own child)
-  ready_sized = subst (λ (k : ℕ). Ready (tables lg sources k slots own child)) e
-
-  pub remembers_sized : (present memory : List ℕ) → Remembers (tables lg sources m slots own child) present memory
-      → Remembers (tables lg sources n slots own child) present memory
-  remembers_sized present memory = subst (λ (k : ℕ). Remembers (tables lg sources k slots own child) present memory) e
-
-  pub judged_sized : (present : List ℕ) (a b : ℕ) (alive after : List ℕ) → Judged (tables lg sources m slots own child) present a b alive after
-      → Judged (tables lg sources n slots own child) present a b alive after
-  judged_sized present a b alive after = subst (λ (k : ℕ). Judged (tables lg sources k slots own child) present a b alive after) e
 
 -- ---- candidates
 
@@ -157,7 +144,7 @@ module _ (K : Classes) where
 
   -- ---- a sweep: the sources are judged by what is present, the candidates of those that are no longer alive dropped
 
-  module _ (marks memory alive present : List ℕ) (left : ℕ) (S : State K (length marks) marks memory alive present left) (m : ℕ)
+  module _ (marks : List ℕ) (memory : List (List ℕ)) (alive present : List ℕ) (left : ℕ) (S : State K (length marks) marks memory alive present left) (m : ℕ)
       (sources : (c : ℕ) → c < length marks → class_of K.source c < m) (kept after : List ℕ) (r : ℕ) (J : Judged K.rows present 0 m alive kept)
       (D : Dropped K.source kept 0 (length marks) marks after left r) where
     target_present : (c : ℕ) → Marked marks c → Marked present (class_of K.target c)
@@ -197,7 +184,7 @@ module _ (K : Classes) where
     }
 
     -- the targets that are present later were present before, so what is remembered of those holds of these
-    pub swept_state : (memory' later : List ℕ) → Remembers K.rows present memory' → r ≡ rank (marked? after) (length marks)
+    pub swept_state : (memory' : List (List ℕ)) (later : List ℕ) → Remembers K.rows present memory' → r ≡ rank (marked? after) (length marks)
         → Noted K.target after later (length marks) → State K (length marks) after memory' kept later r
     swept_state memory' later M number N = record {
       counted = record { bits = λ c. le_trans (D.lower c) (S.counted.bits c); number = number };
@@ -215,9 +202,9 @@ module _ (K : Classes) where
   -- ---- the start, and the end
 
   -- nothing is remembered yet
-  pub remembers-none : (present memory : List ℕ) → ((i : ℕ) → get_or memory i 0 ≡ 0) → Remembers K.rows present memory
+  pub remembers-none : (present : List ℕ) (memory : List (List ℕ)) → ((a q : ℕ) → cell memory a q ≡ 0) → Remembers K.rows present memory
   remembers-none present memory zeros a q _ _ =
-      let z = zeros (16 * a + q) in
+      let z = zeros a q in
       record { within = omega arith; known = λ l. absurd (omega arith); passed = λ d l. absurd (omega arith) }
 
   -- the last sweep left as many marks as there were

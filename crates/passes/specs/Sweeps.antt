@@ -24,9 +24,9 @@ classes T source target = record { rows = T; source = source; target = target }
 abbrev pub class_of : List ℕ → ℕ → ℕ
 class_of xs c = get_or xs c 0
 
--- each of n candidates has a class below k
-abbrev pub Into : (xs : List ℕ) (n k : ℕ) → Type 0
-Into xs n k = (n ≤ length xs) × ((c : ℕ) → c < n → class_of xs c < k)
+-- each candidate has a class below k
+abbrev pub Into : (xs : List ℕ) (k : ℕ) → Type 0
+Into xs k = (c : ℕ) → c < length xs → class_of xs c < k
 
 -- candidate d is a witness of slot q of candidate c
 abbrev pub WitnessIn : Classes → (c q d : ℕ) → Type 0
@@ -76,7 +76,7 @@ pub record Counted (n : ℕ) (marks : List ℕ) (left : ℕ) : Type 0 where
 
 -- what holds between sweeps: the marks are counted, the sources of the marked candidates are alive and their targets present, and no others, and
 -- the memory speaks of the targets that are present
-pub record State (K : Classes) (n : ℕ) (marks memory alive present : List ℕ) (left : ℕ) : Type 0 where
+pub record State (K : Classes) (n : ℕ) (marks : List ℕ) (memory : List (List ℕ)) (alive present : List ℕ) (left : ℕ) : Type 0 where
   pub counted : Counted n marks left
   pub sources : Noted K.source marks alive n
   pub targets : Noted K.target marks present n

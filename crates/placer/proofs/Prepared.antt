@@ -29,19 +29,24 @@ use Rattle.slots.proofs.Slots.{slot_role_lem}
 use Rattle.placement.specs.Outcome.{MembershipMet, HoldsMembership, HoldsLink}
 use Rattle.levels.specs.Rows.{row_at}
 use Rattle.boxes.specs.Boxes.{OnChain}
+use Rattle.network.specs.declared.Constraint.{Constraint}
 use Rattle.network.specs.Constraints.{AllMet}
 use Rattle.network.specs.Network.{between, ClaimsMet, NetworkOf}
-use Rattle.network.proofs.Network.{slot_row_on_chain, network-right, network_met}
+use Rattle.network.proofs.Links.{slot_row_on_chain, network-right, network_met}
 use Rattle.domains.specs.Consistent.{Problem}
 use Rattle.filter.specs.Filter.{MembershipsBy, grades_of}
 use Rattle.placer.specs.Placing.{Task, claims_book}
 
 -- what the task is searched by: the network of the link claims
-pub record Prepared (lg : Logic) (ts slots ms ls marks : List ℕ) (count n : ℕ) (net ends : List ℕ) : Type 0 where
+pub record Prepared (lg : Logic) (ts slots ms ls marks : List ℕ) (count n : ℕ) (net : List Constraint) (ends : List ℕ) : Type 0 where
   pub task : Task lg ts slots ms ls marks count n
   pub network : (levels : List ℕ) × NetworkOf lg slots ls levels net ends
 
-module _ {lg : Logic} {ts slots ms ls marks : List ℕ} {count n : ℕ} {net ends : List ℕ} (w : Prepared lg ts slots ms ls marks count n net ends) where
+pub prepared : {lg : Logic} {ts slots ms ls marks : List ℕ} {count n : ℕ} {net : List Constraint} {ends : List ℕ} → Task lg ts slots ms ls marks count n
+    → (levels : List ℕ) × NetworkOf lg slots ls levels net ends → Prepared lg ts slots ms ls marks count n net ends
+prepared task network = record { task = task; network = network }
+
+module _ {lg : Logic} {ts slots ms ls marks : List ℕ} {count n : ℕ} {net : List Constraint} {ends : List ℕ} (w : Prepared lg ts slots ms ls marks count n net ends) where
   abbrev G : Grading
   G = grading lg (terms_of ts)
 

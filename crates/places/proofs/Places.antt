@@ -1,4 +1,4 @@
--- Laws of places: which kinds are places, and how many terms open one, one term more.
+-- Laws of places: which terms open one, and how many, one term more.
 -- Assumes nothing.
 use mathlib.Core.Path.{◌≡◌, refl, sym, ap, subst}
 use mathlib.Core.Bool.{Bool}
@@ -12,15 +12,12 @@ use Rattle.semantics.specs.Terms.{Term}
 use Rattle.semantics.specs.Interpretations.{graded}
 use Rattle.types.specs.Candidates.{place, HasPlace, Opens, opens?, places, home, candidates}
 use Rattle.types.proofs.Candidates.{opens-home}
-use Rattle.sections.specs.Terms.{term_of, kind_at, a_at, b_at, term_count, term_at, terms_of}
-use Rattle.sections.proofs.Terms.{by_kind, term-kind, length-terms, term-at}
+use Rattle.sections.specs.Terms.{kind_at, a_at, b_at, term_count, term_at, terms_of}
+use Rattle.sections.proofs.Terms.{by_kind, length-terms, term-at}
 
--- ---- a term of the section by its kind
+-- ---- a term of the section
 
 module _ (s : List ℕ) (i : ℕ) where
-  pub place-kind : (k : ℕ) → kind_at s i ≡ k → HasPlace (place (term_of k (a_at s i) (b_at s i))) → HasPlace (place (term_at s i))
-  place-kind k e h = subst (λ (t : Term). HasPlace (place t)) (sym (term-kind s i k e)) h
-
   pub other_kind : ¬ (kind_at s i ≡ 0) → ¬ (kind_at s i ≡ 4) → ¬ (kind_at s i ≡ 5) → ¬ HasPlace (place (term_at s i))
   other_kind =
       by_kind (λ k t. ¬ (k ≡ 0) → ¬ (k ≡ 4) → ¬ (k ≡ 5) → ¬ HasPlace (place t)) (a_at s i) (b_at s i) (λ n _ _ _. n refl) (λ _ _ _ z. z)

@@ -2,7 +2,7 @@
 
 #![tactic(auto)]
 
-ghost use Rattle.std.specs.Prelude.{◌≡◌, [], ℕ, ◌+◌, ◌<◌, ◌≤◌, length, get_or};
+ghost use Rattle.std.specs.Prelude.{◌≡◌, [], ℕ, ◌+◌, ◌<◌, ◌≤◌};
 ghost use Rattle.chain.specs.Decisions.{Tells};
 ghost use Rattle.powers.specs.Bounded.{bounded};
 ghost use Rattle.semantics.specs.Interpretations.{graded};
@@ -10,42 +10,28 @@ ghost use Rattle.types.specs.Candidates.{place, HasPlace, Opens, places, home as
 ghost use Rattle.sections.specs.Terms.{term_at, terms_of, term_count, TermsRight};
 ghost use Rattle.places.specs.Homes.{HomesOf, Noted};
 
-use encoding::wide;
-use powers::Power;
+use sections::{Term, read_term, term_at};
 
 // ---- homes: the term that opens each term's place
 
-// The term that opens the place of term `i`: of a name the first term that has it, by the names that were noted of the terms before it.
-fn home_at(terms: &[u8], firsts: &mut [u8], i: usize) -> u8
+// The term that opens the place of term `i`: of a name the first term that has it, by the first terms that were noted of the names before it.
+fn home_at(terms: &[u8], firsts: &mut [Option<u8>; 16], i: usize) -> u8
     requires terms_right { TermsRight terms.now }
-    requires i_bound { (i < term_count terms.now) × (i < 64) × (16 ≤ length firsts.old) × Noted (terms_of terms.now) i firsts.old }
+    requires i_bound { (i < term_count terms.now) × (i < 64) × Noted (terms_of terms.now) i firsts.old }
     ensures value { result ≡ home_of (terms_of terms.now) i }
     ensures noted { Noted (terms_of terms.now) (i + 1) firsts.new }
 {
-    if terms[3 * i] != 0 {
-        return i as u8;
-    }
-    let a = wide(terms[3 * i + 1]);
-    let noted = firsts[a];
-    if 0 < noted {
-        return noted - 1;
-    }
-    firsts[a] = i as u8 + 1;
-    i as u8
-}
-
-// Fills in the homes of all terms, in one pass; no name is noted before.
-fn fill_homes(terms: &[u8], firsts: &mut [u8], homes: &mut [u8])
-    requires terms_right { TermsRight terms.now }
-    requires terms_bound { (term_count terms.now ≤ 64) × (term_count terms.now ≤ length homes.old) × (16 ≤ length firsts.old) × ((a : ℕ) → get_or firsts.old a 0 ≡ 0) }
-    ensures { HomesOf terms.now homes.new }
-{
-    let count = terms.len() / 3;
-    let mut i = 0;
-    while i < count {
-        let h = home_at(terms, firsts, i);
-        homes[i] = h;
-        i += 1;
+    let own = i as u8;
+    let Term::Name(a) = term_at(terms, i) else {
+        return own;
+    };
+    let name = usize::from(a);
+    match firsts[name] {
+        Some(first) => first,
+        None => {
+            firsts[name] = Some(own);
+            own
+        }
     }
 }
 
@@ -55,9 +41,11 @@ pub fn find_homes(terms: &[u8]) -> [u8; 64]
     requires terms_bound { term_count terms.now ≤ 64 }
     ensures { HomesOf terms.now result }
 {
-    let mut firsts = [0u8; 16];
+    let mut firsts = [None; 16];
     let mut homes = [0u8; 64];
-    fill_homes(terms, &mut firsts, &mut homes);
+    for i in 0..terms.len() / 3 {
+        homes[i] = home_at(terms, &mut firsts, i);
+    }
     homes
 }
 
@@ -68,11 +56,8 @@ fn has_place(s: &[u8], i: usize) -> bool
     requires { i < term_count s.now }
     ensures { Tells result (HasPlace (place (term_at s.now i))) }
 {
-    let kind = s[3 * i];
-    match kind {
-        0 => true,
-        4 => true,
-        5 => true,
+    match read_term(s, i) {
+        Term::Name(_) | Term::Quantified { .. } => true,
         _ => false,
     }
 }
@@ -82,31 +67,25 @@ fn opens(terms: &[u8], i: usize, home: u8) -> bool
     requires { (i < term_count terms.now) × (home ≡ home_of (terms_of terms.now) i) }
     ensures { Tells result (Opens (terms_of terms.now) i) }
 {
-    if !has_place(terms, i) {
-        return false;
-    }
-    wide(home) == i
+    has_place(terms, i) && usize::from(home) == i
 }
 
 // How many places there are.
-fn count_places(terms: &[u8], homes: &[u8]) -> usize
-    requires { HomesOf terms.now homes.now × (term_count terms.now ≤ length homes.now) }
+fn count_places(terms: &[u8], homes: &[u8; 64]) -> usize
+    requires { HomesOf terms.now homes.now × (term_count terms.now ≤ 64) }
     ensures { result ≡ places (terms_of terms.now) }
 {
-    let count = terms.len() / 3;
     let mut found = 0;
-    let mut i = 0;
-    while i < count {
+    for i in 0..terms.len() / 3 {
         if opens(terms, i, homes[i]) {
             found += 1;
         }
-        i += 1;
     }
     found
 }
 
 // The number of candidates on `steps` steps, up to 16,384 (check 10). Pairs of roles play no part in it.
-pub fn count_candidates(terms: &[u8], steps: u8) -> Power
+pub fn count_candidates(terms: &[u8], steps: u8) -> Option<u64>
     requires terms_right { TermsRight terms.now }
     requires terms_bound { term_count terms.now ≤ 64 }
     ensures { result ≡ bounded (candidates (graded steps (terms_of terms.now) [])) }

@@ -2,20 +2,19 @@
 
 #![tactic(auto)]
 
-use powers::Power;
 use reports::tally;
 use reports::tally::{Tally, close, say, say_count, say_number};
 use std::io;
 use std::num::wrapping_add_u64;
 
 // The most places that can be asked for: a loop that went through them all would not end.
-const ANY_PLACES: usize = 18446744073709551615;
+const ANY_PLACES: usize = usize::MAX;
 
 // How often the power goes into a number: divided by the number of grades, once for each place.
 fn quotient(x: u64, steps: u8, places: usize) -> u64 {
-    let grades = steps as u64 + 1;
+    let grades = u64::from(steps) + 1;
     let mut left = x;
-    for i in 0..places {
+    for _ in 0..places {
         left /= grades;
     }
     left
@@ -23,28 +22,15 @@ fn quotient(x: u64, steps: u8, places: usize) -> u64 {
 
 // Is a number the power: this goes into it once, and not into the number before?
 fn is_power(x: u64, steps: u8, places: usize) -> bool {
-    if x == 0 {
-        return false;
-    }
-    if quotient(x, steps, places) != 1 {
-        return false;
-    }
-    quotient(x - 1, steps, places) == 0
+    x != 0 && quotient(x, steps, places) == 1 && quotient(x - 1, steps, places) == 0
 }
 
 // Is an answer right: the power itself where it goes into 16384, and "more" where it does not?
-fn right(answer: Power, steps: u8, places: usize) -> bool {
+fn right(answer: Option<u64>, steps: u8, places: usize) -> bool {
     let within = quotient(16384, steps, places) != 0;
     match answer {
-        Power::Exactly(p) => within && is_power(p, steps, places),
-        Power::More => !within,
-    }
-}
-
-fn is_exact(answer: Power) -> bool {
-    match answer {
-        Power::Exactly(_) => true,
-        Power::More => false,
+        Some(p) => within && is_power(p, steps, places),
+        None => !within,
     }
 }
 
@@ -60,7 +46,7 @@ fn with_chain(mut row: Row, steps: u8, places: usize) -> Row {
     let answer = powers::bounded_power(steps, places);
     let cases = row.cases;
     row.cases = tally::judge(cases, right(answer, steps, places));
-    if is_exact(answer) {
+    if answer.is_some() {
         row.exact = wrapping_add_u64(row.exact, 1);
     }
     row
@@ -72,10 +58,8 @@ fn row_of(places: usize) -> Row {
         cases: tally::begin(),
         exact: 0,
     };
-    let mut steps = 255;
-    while 0 < steps {
+    for steps in (1..=255).rev() {
         row = with_chain(row, steps, places);
-        steps -= 1;
     }
     row
 }
@@ -96,30 +80,23 @@ fn rows(rt: &impl Print, mut total: Tally) -> io::Result<Tally> {
     Ok(total)
 }
 
-fn is_one(answer: Power) -> bool {
-    match answer {
-        Power::Exactly(p) => p == 1,
-        Power::More => false,
-    }
-}
-
 // A chain without steps has one grade, and so one candidate whatever the places.
 fn no_steps() -> Tally {
     let mut t = tally::begin();
-    t = tally::judge(t, is_one(powers::bounded_power(0, 0)));
-    t = tally::judge(t, is_one(powers::bounded_power(0, 1)));
-    t = tally::judge(t, is_one(powers::bounded_power(0, 64)));
-    t = tally::judge(t, is_one(powers::bounded_power(0, ANY_PLACES)));
+    t = tally::judge(t, powers::bounded_power(0, 0) == Some(1));
+    t = tally::judge(t, powers::bounded_power(0, 1) == Some(1));
+    t = tally::judge(t, powers::bounded_power(0, 64) == Some(1));
+    t = tally::judge(t, powers::bounded_power(0, ANY_PLACES) == Some(1));
     t
 }
 
 // More places than a book has terms.
 fn more_places() -> Tally {
     let mut t = tally::begin();
-    t = tally::judge(t, !is_exact(powers::bounded_power(1, 65)));
-    t = tally::judge(t, !is_exact(powers::bounded_power(255, 65)));
-    t = tally::judge(t, !is_exact(powers::bounded_power(1, ANY_PLACES)));
-    t = tally::judge(t, !is_exact(powers::bounded_power(255, ANY_PLACES)));
+    t = tally::judge(t, powers::bounded_power(1, 65).is_none());
+    t = tally::judge(t, powers::bounded_power(255, 65).is_none());
+    t = tally::judge(t, powers::bounded_power(1, ANY_PLACES).is_none());
+    t = tally::judge(t, powers::bounded_power(255, ANY_PLACES).is_none());
     t
 }
 

@@ -1,11 +1,9 @@
 -- A number of candidates, exact up to the limit.
 -- Assumes nothing.
 use Rattle.std.proofs.Math.Logic.{ite}
-use Rattle.std.specs.Prelude.{ℕ}
+use Rattle.std.specs.Prelude.{ℕ, Option, Some, None}
 use Rattle.std.proofs.Math.Decide.{dec_le}
-use Rattle.powers.specs.declared.Power.{Power}
-use Rattle.powers.specs.declared.Power.TheVariants.{Exactly, More}
 
 -- document 01, check 10: "Are there at most 16,384 candidates?"; document 02, P3: "the exact power up to 16,384, and above that only "more""
-unfoldable pub bounded : ℕ → Power
-bounded m = ite (dec_le m 16384) (Exactly m) More
+unfoldable pub bounded : ℕ → Option ℕ
+bounded m = ite (dec_le m 16384) (Some m) None

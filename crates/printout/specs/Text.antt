@@ -31,8 +31,9 @@ value_after n [] = n
 value_after n (d ∷ ds) = value_after (10 * n + (d - 48)) ds
 
 -- What code promises that adds text to a buffer at a place: up to the text's end, the new place, the buffer has what stood before the place,
--- and then the text; the bytes past it are kept.
+-- and then the text; the bytes past it are kept, and the buffer is as long as before.
 pub record Added (before : List ℕ) (at : ℕ) (text after : List ℕ) (end : ℕ) : Type 0 where
   pub ends : end ≡ at + length text
   pub holds : take end after ≡ take at before ++ text
   pub kept : drop end after ≡ drop end before
+  pub as_long : length after ≡ length before

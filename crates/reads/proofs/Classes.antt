@@ -7,8 +7,9 @@ use mathlib.Core.List.{List}
 use Prim.Native.Nat.{ℕ, ◌+◌, ◌-◌, ◌*◌, ◌≤◌, ◌<◌}
 use native.Mathlib.Decide.{ℕ_discrete, dec_lt}
 use native.Mathlib.Omega.{arith}
-use lib.ListN.{length, get_or, set, take}
+use lib.ListN.{length, get_or, set}
 use lib.Seq.{get_or-set_same, get_or-set_other, set_out}
+use Rattle.network.specs.declared.Constraint.{Constraint}
 use Rattle.gradings.specs.declared.Logic.{Logic}
 use Rattle.levels.specs.Rows.{row_at}
 use Rattle.domains.specs.Tables.{Allowed}
@@ -39,7 +40,7 @@ module _ (s : ℕ → ℕ) (j e : ℕ) where
       go (yes z) = absurd (h z)
       go (no _) = refl
 
-module _ (lg : Logic) (net ends : List ℕ) (count : ℕ) (rows : List ℕ) (n : ℕ) where
+module _ (lg : Logic) (net : List Constraint) (ends : List ℕ) (count : ℕ) (rows : List ℕ) (n : ℕ) where
   pub thinned_none : (table : List ℕ) → Thinned lg net ends count rows n table table
   thinned_none table = record { fewer = λ x h. h; keeps = λ s h. (s, h, λ j l. omega arith) }
 
@@ -50,16 +51,16 @@ module _ (lg : Logic) (net ends : List ℕ) (count : ℕ) (rows : List ℕ) (n :
   }
 
   -- one individual, by what is read of it
-  pub thinned_at : (m : ℕ) → Problem lg m net ends count n rows → (j : ℕ) → j < n → (seen : List ℕ) → Read net ends j 8 seen
-      → (r : ℕ) (list : List ℕ) → Listed seen 32 r list → 32 ≤ length list → (old new : List ℕ) → ThinnedAt (take r list) rows j count old new
+  pub thinned_at : (m : ℕ) → Problem lg m net ends count n rows → (j : ℕ) → j < n → (seen : List Bool) → Read net ends j 8 seen
+      → (list : List ℕ) → Listed seen 32 (length list) list → (old new : List ℕ) → ThinnedAt list rows j count old new
       → Thinned lg net ends count rows n old new
-  thinned_at m p j in-j seen read r list listed long old new w = record { fewer = w.fewer; keeps = keeps }
+  thinned_at m p j in-j seen read list listed old new w = record { fewer = w.fewer; keeps = keeps }
     where
       keeps : (s : ℕ → ℕ) → Consistent lg net ends count rows n old s
           → (t : ℕ → ℕ) × Consistent lg net ends count rows n new t × ((k : ℕ) → k < n → t k ≤ s k)
       keeps s h = (t, record { below = below; allowed = allowed; fits = fits }, no_later)
         where
-          u : (e : ℕ) × (e ≤ s j) × Allowed new j e × Alike (take r list) (row_at rows e) (row_at rows (s j))
+          u : (e : ℕ) × (e ≤ s j) × Allowed new j e × Alike list (row_at rows e) (row_at rows (s j))
           u = w.first (s j) (h.below j in-j) (h.allowed j in-j)
 
           t : ℕ → ℕ
@@ -89,7 +90,7 @@ module _ (lg : Logic) (net ends : List ℕ) (count : ℕ) (rows : List ℕ) (n :
           fits_one i l apart =
               same-fits lg m net ends count n rows p j i (omega (arith, p.individuals_few)) (omega (arith, p.individuals_few)) apart seen read
               (row_at rows (s j)) (row_at rows u.0)
-              (λ x k e. sym (listed_same seen r list listed long (row_at rows u.0) (row_at rows (s j)) u.3 x k e))
+              (λ x k e. sym (listed_same seen list listed (row_at rows u.0) (row_at rows (s j)) u.3 x k e))
               (row_at rows (s i)) (h.fits j i in-j l apart)
 
           fits : (k i : ℕ) → k < n → i < n → ¬ (i ≡ k) → Fits lg net ends k i (row_at rows (t k)) (row_at rows (t i))

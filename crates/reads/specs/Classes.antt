@@ -1,5 +1,6 @@
 -- Classes of candidates that look alike to the constraints between an individual and the others: the first of each is enough.
 -- Assumes nothing.
+use Rattle.network.specs.declared.Constraint.{Constraint}
 use Rattle.std.specs.Prelude.{◌≡◌, Bool, true, false, List, ℕ, ◌+◌, ◌-◌, ◌≤◌, ◌<◌, length, get_or, set}
 use Rattle.gradings.specs.declared.Logic.{Logic}
 use Rattle.levels.specs.Rows.{row_at}
@@ -30,7 +31,7 @@ pub record Thinning (list rows : List ℕ) (j count c : ℕ) (old new memory : L
   pub kept : (h : ℕ) → 0 < get_or memory h 0 → (get_or memory h 0 ≤ c) × Allowed new j (get_or memory h 0 - 1)
 
 -- candidates were taken away, and whatever placement is consistent, one that is nowhere later still is
-pub record Thinned (l : Logic) (net ends : List ℕ) (count : ℕ) (rows : List ℕ) (n : ℕ) (old new : List ℕ) : Type 0 where
+pub record Thinned (l : Logic) (net : List Constraint) (ends : List ℕ) (count : ℕ) (rows : List ℕ) (n : ℕ) (old new : List ℕ) : Type 0 where
   pub fewer : (x : ℕ) → get_or new x 0 ≡ 1 → get_or old x 0 ≡ 1
   pub keeps : (s : ℕ → ℕ) → Consistent l net ends count rows n old s
       → (t : ℕ → ℕ) × Consistent l net ends count rows n new t × ((j : ℕ) → j < n → t j ≤ s j)

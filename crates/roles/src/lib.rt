@@ -3,15 +3,13 @@
 
 #![tactic(auto)]
 
-ghost use Rattle.std.specs.Prelude.{◌≡◌, ℕ, ◌+◌, ◌<◌, ◌≤◌, length, get_or};
+ghost use Rattle.std.specs.Prelude.{◌≡◌, ℕ, ◌+◌, ◌<◌, get_or};
 ghost use Rattle.claims.specs.Pairs.{pair_count, pair_at, pairs_of, PairsRight};
 ghost use Rattle.roles.specs.Tables.{Reaches, Copied, Joined, JoinedWhere, Linked, Diagonal};
 
-use encoding::wide;
-
 // Marks byte `to` where byte `from` is marked.
-fn copy_mark(above: &mut [u8], from: usize, to: usize)
-    requires { (from < length above.old) × (to < length above.old) }
+fn copy_mark(above: &mut [u8; 64], from: usize, to: usize)
+    requires { (from < 64) × (to < 64) }
     ensures { Copied from to above.old above.new }
 {
     if above[from] == 1 {
@@ -20,20 +18,18 @@ fn copy_mark(above: &mut [u8], from: usize, to: usize)
 }
 
 // Adds to row `r` what is marked in row `u`.
-fn join(above: &mut [u8], r: usize, u: usize)
-    requires { (r < 8) × (u < 8) × (64 ≤ length above.old) }
+fn join(above: &mut [u8; 64], r: usize, u: usize)
+    requires { (r < 8) × (u < 8) }
     ensures { Joined r u 8 above.old above.new }
 {
-    let mut s = 0;
-    while s < 8 {
+    for s in 0..8 {
         copy_mark(above, 8 * u + s, 8 * r + s);
-        s += 1;
     }
 }
 
 // Where row `r` reaches the lower role, it reaches what the upper role reaches.
-fn join_where(above: &mut [u8], r: usize, lower: usize, upper: usize)
-    requires { (r < 8) × (lower < 8) × (upper < 8) × (64 ≤ length above.old) }
+fn join_where(above: &mut [u8; 64], r: usize, lower: usize, upper: usize)
+    requires { (r < 8) × (lower < 8) × (upper < 8) }
     ensures { JoinedWhere r lower upper above.old above.new }
 {
     if above[8 * r + lower] == 1 {
@@ -42,39 +38,33 @@ fn join_where(above: &mut [u8], r: usize, lower: usize, upper: usize)
 }
 
 // Follows pair `i`: whatever reaches its lower role reaches what its upper role reaches.
-fn follow(pairs: &[u8], i: usize, above: &mut [u8])
-    requires { (i < pair_count pairs.now) × PairsRight pairs.now × (64 ≤ length above.old) }
+fn follow(pairs: &[u8], i: usize, above: &mut [u8; 64])
+    requires { (i < pair_count pairs.now) × PairsRight pairs.now }
     ensures { Linked (pair_at pairs.now i).lower (pair_at pairs.now i).upper 8 above.old above.new }
 {
-    let lower = wide(pairs[2 * i]);
-    let upper = wide(pairs[2 * i + 1]);
-    let mut r = 0;
-    while r < 8 {
+    let lower = usize::from(pairs[2 * i]);
+    let upper = usize::from(pairs[2 * i + 1]);
+    for r in 0..8 {
         join_where(above, r, lower, upper);
-        r += 1;
     }
 }
 
 // Each role reaches itself. No byte is marked before.
-fn mark_own(above: &mut [u8])
-    requires { (64 ≤ length above.old) × ((z : ℕ) → get_or above.old z 0 ≡ 0) }
+fn mark_own(above: &mut [u8; 64])
+    requires { (z : ℕ) → get_or above.old z 0 ≡ 0 }
     ensures { Diagonal 8 above.new }
 {
-    let mut r = 0;
-    while r < 8 {
+    for r in 0..8 {
         above[9 * r] = 1;
-        r += 1;
     }
 }
 
 // Follows all pairs, the last first.
-fn follow_all(pairs: &[u8], above: &mut [u8])
-    requires { PairsRight pairs.now × (64 ≤ length above.old) × Diagonal 8 above.old }
+fn follow_all(pairs: &[u8], above: &mut [u8; 64])
+    requires { PairsRight pairs.now × Diagonal 8 above.old }
     ensures { Reaches (pairs_of pairs.now) above.new }
 {
-    let mut i = pairs.len() / 2;
-    while 0 < i {
-        i -= 1;
+    for i in (0..pairs.len() / 2).rev() {
         follow(pairs, i, above);
     }
 }

@@ -11,15 +11,8 @@ pub fn mark_by_rules(rules: &[u8], row: &[u8]) -> u8
     requires { RulesRight rules.now (length row.now) }
     ensures { (result ≤ 1) × ((result ≡ 1) ↔ RowObeys rules.now row.now) }
 {
-    let count = rules.len() / 2;
-    let mut i = 0;
-    while i < count {
-        let left = rules[2 * i] as usize;
-        let right = rules[2 * i + 1] as usize;
-        if row[right] < row[left] {
-            return 0;
-        }
-        i += 1;
-    }
-    1
+    let obeys = (0..rules.len() / 2).all(|i| {
+        row[usize::from(rules[2 * i])] <= row[usize::from(rules[2 * i + 1])]
+    });
+    u8::from(obeys)
 }

@@ -17,9 +17,9 @@ use Rattle.working.proofs.Working.{judge_yes, judge_no, first-table}
 module _ (grade : (term element : ℕ) → ℕ) (k : ℕ) where
   -- x and y are the grades of the two terms at e
   module _ (q : Rule) (e x y : ℕ) (l : x ≡ grade q.left e) (r : y ≡ grade q.right e) where
-    pub rule_met : x ≤ y → rule_verdict_at grade k q e ≡ Meets
+    pub rule_met : x ≤ y → Meets ≡ rule_verdict_at grade k q e
     unfolding rule_verdict_at
-    rule_met h = judge_yes _ _ (omega arith)
+    rule_met h = sym (judge_yes _ _ (omega arith))
 
     pub rule_unmet : y < x → BreaksRule k e ≡ rule_verdict_at grade k q e
     unfolding rule_verdict_at
@@ -27,9 +27,9 @@ module _ (grade : (term element : ℕ) → ℕ) (k : ℕ) where
 
 -- x and y are the links of the two roles from e to f
 module _ (link : (role source target : ℕ) → ℕ) (k : ℕ) (q : RolePair) (e f x y : ℕ) (l : x ≡ link q.lower e f) (r : y ≡ link q.upper e f) where
-  pub pair_met : x ≤ y → pair_verdict_at link k q e f ≡ Meets
+  pub pair_met : x ≤ y → Meets ≡ pair_verdict_at link k q e f
   unfolding pair_verdict_at
-  pair_met h = judge_yes _ _ (omega arith)
+  pair_met h = sym (judge_yes _ _ (omega arith))
 
   pub pair_unmet : y < x → BreaksPair k e f ≡ pair_verdict_at link k q e f
   unfolding pair_verdict_at

@@ -1,22 +1,18 @@
-// The terms of a book, checked over their own stretch of bytes.
+// The terms of a book, checked over their own stretch of bytes, and a term as a value.
 
 #![tactic(auto)]
 
-ghost use Rattle.std.specs.Prelude.{◌<◌};
+ghost use Rattle.std.specs.Prelude.{◌≡◌, ◌<◌, ◌≤◌};
 ghost use Rattle.chain.specs.Decisions.{Tells};
-ghost use Rattle.sections.specs.Terms.{term_count, Described, TermRight, TermsRight};
-
-use encoding::wide;
+ghost use Rattle.sections.specs.Terms.{term_count, term_at as term_of_bytes, quantifier_of as quantifier_of_kind, Described, TermRight, TermsRight};
+ghost use Rattle.sections.specs.Values.{as_quantifier, as_term, OperandsBelow};
 
 // ---- terms: three bytes each (check 6)
 
 fn both_below(a: u8, a_limit: usize, b: u8, b_limit: usize) -> bool
     ensures { Tells result ((a < a_limit) × (b < b_limit)) }
 {
-    if a_limit <= wide(a) {
-        return false;
-    }
-    wide(b) < b_limit
+    usize::from(a) < a_limit && usize::from(b) < b_limit
 }
 
 // Are the three bytes a term of number `i` as the table of kinds describes it? Each kind bounds its two operands; a byte that must be 0 is
@@ -24,31 +20,14 @@ fn both_below(a: u8, a_limit: usize, b: u8, b_limit: usize) -> bool
 fn described(i: usize, kind: u8, a: u8, b: u8) -> bool
     ensures { Tells result (Described i kind a b) }
 {
-    if kind == 0 {
-        return both_below(a, 16, b, 1);
+    match kind {
+        0 => both_below(a, 16, b, 1),
+        1 => both_below(a, i, b, 1),
+        2 | 3 => both_below(a, i, b, i),
+        4 | 5 => both_below(a, 8, b, i),
+        6 | 7 => both_below(a, 1, b, 1),
+        _ => false,
     }
-    if kind == 1 {
-        return both_below(a, i, b, 1);
-    }
-    if kind == 2 {
-        return both_below(a, i, b, i);
-    }
-    if kind == 3 {
-        return both_below(a, i, b, i);
-    }
-    if kind == 4 {
-        return both_below(a, 8, b, i);
-    }
-    if kind == 5 {
-        return both_below(a, 8, b, i);
-    }
-    if kind == 6 {
-        return both_below(a, 1, b, 1);
-    }
-    if kind == 7 {
-        return both_below(a, 1, b, 1);
-    }
-    false
 }
 
 fn term_right(s: &[u8], i: usize) -> bool
@@ -61,13 +40,78 @@ fn term_right(s: &[u8], i: usize) -> bool
 pub fn terms_right(s: &[u8]) -> bool
     ensures { Tells result (TermsRight s.now) }
 {
-    let count = s.len() / 3;
-    let mut i = 0;
-    while i < count {
-        if !term_right(s, i) {
-            return false;
-        }
-        i += 1;
+    (0..s.len() / 3).all(|i| term_right(s, i))
+}
+
+// ---- a term as a value
+
+// "Some" is existential, "all" universal.
+#[derive(Clone, Copy, Debug, PartialEq, Eq)]
+pub enum Quantifier {
+    Existential,
+    Universal,
+}
+
+// A name and a role are numbers, and so is a child: the number of a term below the term's own.
+#[derive(Clone, Copy, Debug, PartialEq, Eq)]
+pub enum Term {
+    Name(u8),
+    Not(u8),
+    And(u8, u8),
+    Or(u8, u8),
+    Quantified {
+        quantifier: Quantifier,
+        role: u8,
+        child: u8,
+    },
+    Top,
+    Bottom,
+}
+
+// The quantifier of a kind, where bytes hold it: 4 "some" or 5 "all".
+pub fn quantifier_of(kind: u8) -> Quantifier
+    requires { (4 ≤ kind) × (kind ≤ 5) }
+    ensures { as_quantifier result ≡ quantifier_of_kind kind }
+{
+    if kind == 4 {
+        Quantifier::Existential
+    } else {
+        Quantifier::Universal
     }
-    true
+}
+
+// Term `i`, whatever its bytes are: of a kind that is not there it is bottom.
+pub fn read_term(s: &[u8], i: usize) -> Term
+    requires { i < term_count s.now }
+    ensures { as_term result ≡ term_of_bytes s.now i }
+{
+    let a = s[3 * i + 1];
+    let b = s[3 * i + 2];
+    match s[3 * i] {
+        0 => Term::Name(a),
+        1 => Term::Not(a),
+        2 => Term::And(a, b),
+        3 => Term::Or(a, b),
+        4 => Term::Quantified {
+            quantifier: Quantifier::Existential,
+            role: a,
+            child: b,
+        },
+        5 => Term::Quantified {
+            quantifier: Quantifier::Universal,
+            role: a,
+            child: b,
+        },
+        6 => Term::Top,
+        _ => Term::Bottom,
+    }
+}
+
+// Term `i`, of terms that are as described.
+pub fn term_at(s: &[u8], i: usize) -> Term
+    requires { (i < term_count s.now) × TermsRight s.now }
+    ensures term_value { as_term result ≡ term_of_bytes s.now i }
+    ensures operands_below { OperandsBelow i result }
+{
+    read_term(s, i)
 }

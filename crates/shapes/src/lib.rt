@@ -6,10 +6,10 @@ ghost use Rattle.std.specs.Prelude.{◌≡◌, ◌≤◌, ◌<◌, length};
 ghost use Rattle.chain.specs.Decisions.{Tells};
 ghost use Rattle.shapes.specs.Layout.{shape_of, links_at, individuals_at, end_at, Indexable, CountsAgree, HeadRight, SheetLaidOut};
 
-use encoding::{wide, word};
+use encoding::word;
 
 // The counts of a sheet: elements, names, roles, individuals.
-#[derive(Clone, Copy)]
+#[derive(Clone, Copy, Debug, PartialEq, Eq)]
 pub struct Shape {
     pub elements: usize,
     pub names: usize,
@@ -25,44 +25,30 @@ pub fn shape_of(b: &[u8]) -> Shape
     ensures { (result ≡ shape_of b.now) × Indexable result }
 {
     Shape {
-        elements: wide(b[2]),
-        names: wide(b[3]),
-        roles: wide(b[4]),
-        individuals: wide(b[5]),
+        elements: usize::from(b[2]),
+        names: usize::from(b[3]),
+        roles: usize::from(b[4]),
+        individuals: usize::from(b[5]),
     }
 }
 
 fn counts_agree(p: Shape, names: usize, roles: usize, individuals: usize) -> bool
     ensures { Tells result (CountsAgree p names roles individuals) }
 {
-    if p.elements < 1 {
-        return false;
-    }
-    if 64 < p.elements {
-        return false;
-    }
-    if p.names != names {
-        return false;
-    }
-    if p.roles != roles {
-        return false;
-    }
-    p.individuals == individuals
+    1 <= p.elements
+        && p.elements <= 64
+        && p.names == names
+        && p.roles == roles
+        && p.individuals == individuals
 }
 
 pub fn head_right(b: &[u8], steps: u8, names: usize, roles: usize, individuals: usize) -> bool
     ensures { Tells result (HeadRight b.now (shape_of b.now) steps names roles individuals) }
 {
-    if b.len() < 12 {
-        return false;
-    }
-    if b[0] != 1 {
-        return false;
-    }
-    if b[1] != steps {
-        return false;
-    }
-    counts_agree(shape_of(b), names, roles, individuals)
+    12 <= b.len()
+        && b[0] == 1
+        && b[1] == steps
+        && counts_agree(shape_of(b), names, roles, individuals)
 }
 
 // ---- the layout (check 14): the names begin at byte 12, and each body right after the one before
@@ -95,14 +81,8 @@ pub fn sheet_laid_out(b: &[u8], p: Shape) -> bool
     requires { (12 ≤ length b.now) × Indexable p }
     ensures { Tells result (SheetLaidOut b.now p) }
 {
-    if word(b, 6) != 12 {
-        return false;
-    }
-    if word(b, 8) != links_at(p) {
-        return false;
-    }
-    if word(b, 10) != individuals_at(p) {
-        return false;
-    }
-    b.len() == end_at(p)
+    word(b, 6) == 12
+        && word(b, 8) == links_at(p)
+        && word(b, 10) == individuals_at(p)
+        && b.len() == end_at(p)
 }

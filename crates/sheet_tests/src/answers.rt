@@ -37,8 +37,8 @@ pub fn said(kind: u8, at: usize, element: usize, second: usize) -> Answer {
 fn of_verdict(v: Verdict) -> Answer {
     match v {
         Verdict::Meets => said(0, 0, 0, 0),
-        Verdict::BreaksRule(i, e) => said(1, i, e, 0),
-        Verdict::BreaksPair(i, e, f) => said(5, i, e, f),
+        Verdict::BreaksRule { rule, element } => said(1, rule, element, 0),
+        Verdict::BreaksPair { pair, from, to } => said(5, pair, from, to),
         Verdict::BreaksMembership(i) => said(2, i, 0, 0),
         Verdict::BreaksLink(i) => said(3, i, 0, 0),
     }

@@ -1,3 +1,4 @@
+pub mod Entries
 pub mod Opening
 pub mod Reading
 pub mod Writing

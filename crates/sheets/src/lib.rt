@@ -7,7 +7,6 @@ ghost use Rattle.chain.specs.Decisions.{Tells};
 ghost use Rattle.shapes.specs.Layout.{end_at, EntriesRight};
 ghost use Rattle.sheets.specs.Opening.{sheet_opened};
 
-use encoding::wide;
 use shapes::{Shape, end_at, head_right, individuals_at, links_at, shape_of, sheet_laid_out};
 
 // The number of the first check that says no, or the sheet's shape.
@@ -22,20 +21,13 @@ pub enum Sheet {
 fn all_below(s: &[u8], limit: usize) -> bool
     ensures { Tells result ((i : ℕ) → i < length s.now → get_or s.now i 0 < limit) }
 {
-    let mut i = 0;
-    while i < s.len() {
-        if limit <= wide(s[i]) {
-            return false;
-        }
-        i += 1;
-    }
-    true
+    s.iter().all(|x| usize::from(*x) < limit)
 }
 
 fn all_at_most(s: &[u8], limit: u8) -> bool
     ensures { Tells result ((i : ℕ) → i < length s.now → get_or s.now i 0 ≤ limit) }
 {
-    all_below(s, wide(limit) + 1)
+    s.iter().all(|g| *g <= limit)
 }
 
 // Each body goes to its test as the stretch that it takes.
@@ -46,13 +38,9 @@ fn entries_right(b: &[u8], p: Shape, steps: u8) -> bool
     let links = links_at(p);
     let individuals = individuals_at(p);
     let end = end_at(p);
-    if !all_at_most(&b[12..links], steps) {
-        return false;
-    }
-    if !all_at_most(&b[links..individuals], steps) {
-        return false;
-    }
-    all_below(&b[individuals..end], p.elements)
+    all_at_most(&b[12..links], steps)
+        && all_at_most(&b[links..individuals], steps)
+        && all_below(&b[individuals..end], p.elements)
 }
 
 // ---- the checks in order

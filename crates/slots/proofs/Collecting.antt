@@ -1,25 +1,28 @@
 -- Laws of collecting the slots.
 -- Assumes nothing.
 use mathlib.Core.Path.{◌≡◌, refl, sym, ap, subst, ◌∙◌}
-use mathlib.Core.Logic.{◌⊎◌}
-use mathlib.Core.List.{List}
-use Prim.Native.Nat.{ℕ, suc, ◌+◌, ◌*◌, ◌^◌, ◌≤◌, ◌<◌}
+use mathlib.Core.Logic.{◌⊎◌, inl, inr, dite}
+use mathlib.Core.List.{List, [], ◌∷◌, ◌++◌}
+use Prim.Native.Nat.{ℕ, suc, ◌+◌, ◌-◌, ◌*◌, ◌^◌, ◌≤◌, ◌<◌}
 use native.Mathlib.Nat.{not-suc-le-zero, pow-le-pow_left, pow-le-pow_right}
 use native.Mathlib.Numerals.{add-one}
+use native.Mathlib.Decide.{dec_lt}
 use native.Mathlib.Omega.{arith}
-use lib.ListN.{length, get_or, set, take, length-set}
-use lib.Seq.{get_or-set_same, get_or-set_other, get_or-take, length-take-le}
+use Rattle.std.proofs.Common.{append_assoc}
+use lib.ListN.{length, get_or, set, take, drop, length-set}
+use lib.Seq.{get_or-set_same, get_or-set_other, get_or-take, length-take-le, drop-drop, sets-eq}
 use borrow.Author.Count.{below_more}
 use Rattle.chain.specs.Search.{rank}
 use Rattle.chain.specs.Connectives.{Quantifier, existential, universal}
 use Rattle.chain.proofs.Search.{rank_yes, rank_mono}
 use Rattle.semantics.specs.Terms.{Term, term}
 use Rattle.semantics.specs.Quantified.{quantified}
+use Rattle.semantics.proofs.Quantified.{quantified_alike}
 use Rattle.semantics.specs.Interpretations.{Grading}
 use Rattle.types.specs.Candidates.{place, quantifying, candidates, places, opens?}
 use Rattle.types.proofs.Candidates.{home-quantifying}
-use Rattle.sections.specs.Terms.{quantifier_of, kind_at, a_at, b_at, term_count, terms_of}
-use Rattle.sections.proofs.Terms.{length-terms, quantified-term, other_term}
+use Rattle.sections.specs.Terms.{quantifier_of, kind_at, a_at, b_at, term_count, term_at, terms_of}
+use Rattle.sections.proofs.Terms.{length-terms, term-at, quantified-term, other_term}
 use Rattle.slots.specs.Slots.{slot_count, slot_kind, slot_role, slot_child, slot_term, SlotsOf}
 use Rattle.slots.specs.Collecting.{IsSlot, SlotsCollected, with_slot}
 
@@ -40,6 +43,16 @@ places-few G h l = go (places G.terms) refl
 
 pub slots-none : (ts : List Term) (slots : List ℕ) → SlotsCollected ts slots 0 0
 slots-none ts slots = record { few = omega arith; are = λ q h. absurd (not-suc-le-zero h); onto = λ i h. absurd (not-suc-le-zero h) }
+
+-- four bytes written over the part from 4 m on are the slot
+pub slot-written : (s new : List ℕ) (m k r x i : ℕ) → 4 * m + 4 ≤ length s → new ≡ k ∷ r ∷ x ∷ i ∷ []
+    → take (4 * m) s ++ (new ++ drop (4 * m + 4 - 4 * m) (drop (4 * m) s)) ≡ with_slot s m k r x i
+slot-written s new m k r x i h e =
+    let width : 4 * m + 4 - 4 * m ≡ 4 = omega arith in
+    let one : suc (4 * m) ≡ 4 * m + 1 = omega arith in
+    let two : suc (suc (4 * m)) ≡ 4 * m + 2 = omega arith in
+    let three : suc (suc (suc (4 * m))) ≡ 4 * m + 3 = omega arith in
+    rw (e, width, drop-drop) (sym (rw (three, two, one, append_assoc) at (sets-eq (k ∷ r ∷ x ∷ i ∷ []) s (4 * m) h)))
 
 -- what slot m is written as, and the slots before it
 module _ (s : List ℕ) (m k r x i : ℕ) where
@@ -83,12 +96,12 @@ module _ (s slots : List ℕ) (i m : ℕ) (h : i < term_count s) (C : SlotsColle
   ts = terms_of s
 
   -- another term
-  pub slots_other : (kind_at s i < 4) ⊎ (5 < kind_at s i) → SlotsCollected ts slots (i + 1) m
+  pub slots_other : ((k : Quantifier) (r x : ℕ) → ¬ (term_at s i ≡ quantified k r x)) → SlotsCollected ts slots (i + 1) m
   slots_other n = record {
     few = omega (arith, C.few, rank_mono (opens? ts) i (i + 1) (omega arith));
     are = C.are;
     onto = below_more (λ j. (k : Quantifier) (r x : ℕ) → term ts j ≡ quantified k r x → (q : ℕ) × (q < m) × (slot_term slots q ≡ j)) i C.onto
-        (λ k r x e. absurd (other_term s i h n k r x e));
+        (λ k r x e. absurd (n k r x (sym (term-at s i h) ∙ e)));
   }
 
   -- a quantified one
@@ -106,11 +119,11 @@ module _ (s slots : List ℕ) (i m : ℕ) (h : i < term_count s) (C : SlotsColle
         go existential = refl
         go universal = refl
 
-    pub slots-room : m + 1 ≤ places ts
+    slots-room : m + 1 ≤ places ts
     unfolding places
     slots-room = let l : i + 1 ≤ length ts = rw (length-terms s) (omega arith) in omega (arith, C.few, one_more, rank_mono (opens? ts) (i + 1) (length ts) l)
 
-    pub slots-more : (result : List ℕ) → result ≡ with_slot slots m (kind_at s i) (a_at s i) (b_at s i) i → 4 * m + 4 ≤ length slots
+    slots-more : (result : List ℕ) → result ≡ with_slot slots m (kind_at s i) (a_at s i) (b_at s i) i → 4 * m + 4 ≤ length slots
         → SlotsCollected ts result (i + 1) (m + 1)
     slots-more result z l = subst (λ (y : List ℕ). SlotsCollected ts y (i + 1) (m + 1)) (sym z) (record {
       few = omega (arith, C.few, one_more);
@@ -138,6 +151,24 @@ module _ (s slots : List ℕ) (i m : ℕ) (h : i < term_count s) (C : SlotsColle
 
         before : (j : ℕ) → j < 4 * m → get_or after j 0 ≡ get_or slots j 0
         before = written-before slots m k a b i
+
+  -- the same of a term that is read as quantified
+  module _ (q : Quantifier) (r x : ℕ) (e : quantified q r x ≡ term_at s i) where
+    kinds_read : (4 ≤ kind_at s i) × (kind_at s i ≤ 5)
+    kinds_read =
+        let none : (kind_at s i < 4) ⊎ (5 < kind_at s i) → ⊥ = λ o. other_term s i h o q r x (term-at s i h ∙ sym e) in
+        let low : 4 ≤ kind_at s i = dite (dec_lt (kind_at s i) 4) (λ l. absurd (none (inl l))) (λ n. omega arith) in
+        let high : kind_at s i ≤ 5 = dite (dec_lt 5 (kind_at s i)) (λ l. absurd (none (inr l))) (λ n. omega arith) in
+        (low, high)
+
+    alike : (q ≡ quantifier_of (kind_at s i)) × (r ≡ a_at s i) × (x ≡ b_at s i)
+    alike = quantified_alike q (quantifier_of (kind_at s i)) r (a_at s i) x (b_at s i) (e ∙ sym (term-at s i h) ∙ is kinds_read)
+
+    pub read-room : m + 1 ≤ places ts
+    read-room = slots-room kinds_read
+
+    pub read-more : (result : List ℕ) → result ≡ with_slot slots m (kind_at s i) r x i → 4 * m + 4 ≤ length slots → SlotsCollected ts result (i + 1) (m + 1)
+    read-more result z = slots-more kinds_read result (rw (← alike.1, ← alike.2) z)
 
 pub slots-few : (ts : List Term) (slots : List ℕ) (m : ℕ) → SlotsCollected ts slots (length ts) m → m ≤ places ts
 unfolding places

@@ -9,16 +9,15 @@ ghost use Rattle.slots.specs.Slots.{slot_count, SlotsOf};
 ghost use Rattle.slots.specs.Rows.{TermsBelow, SlotRow};
 ghost use Rattle.slots.specs.Collecting.{SlotsCollected, with_slot};
 
+use sections::{Term, read_term};
+
 // ---- the slots
 
 fn write_slot(slots: &mut [u8], m: usize, kind: u8, role: u8, child: u8, term: u8)
     requires { (m < 16) × (64 ≤ length slots.old) }
     ensures { slots.new ≡ with_slot slots.old m kind role child term }
 {
-    slots[4 * m] = kind;
-    slots[4 * m + 1] = role;
-    slots[4 * m + 2] = child;
-    slots[4 * m + 3] = term;
+    slots[4 * m..4 * m + 4].copy_from_slice(&[kind, role, child, term]);
 }
 
 // Writes term `i` as slot `m` where it is quantified. The number of slots.
@@ -27,15 +26,13 @@ fn put_slot(terms: &[u8], slots: &mut [u8], i: usize, m: usize) -> usize
     requires slots_collected { SlotsCollected (terms_of terms.now) slots.old i m }
     ensures { SlotsCollected (terms_of terms.now) slots.new (i + 1) result }
 {
-    let kind = terms[3 * i];
-    if kind < 4 {
-        return m;
+    match read_term(terms, i) {
+        Term::Quantified { role, child, .. } => {
+            write_slot(slots, m, terms[3 * i], role, child, i as u8);
+            m + 1
+        }
+        _ => m,
     }
-    if 5 < kind {
-        return m;
-    }
-    write_slot(slots, m, kind, terms[3 * i + 1], terms[3 * i + 2], i as u8);
-    m + 1
 }
 
 // Writes the quantified terms as slots. Their number.
@@ -43,12 +40,9 @@ pub fn collect(terms: &[u8], slots: &mut [u8]) -> usize
     requires { (term_count terms.now ≤ 64) × (64 ≤ length slots.old) × (places (terms_of terms.now) ≤ 16) }
     ensures { (result ≤ 16) × SlotsOf (terms_of terms.now) (take (4 * result) slots.new) }
 {
-    let count = terms.len() / 3;
     let mut m = 0;
-    let mut i = 0;
-    while i < count {
+    for i in 0..terms.len() / 3 {
         m = put_slot(terms, slots, i, m);
-        i += 1;
     }
     m
 }
@@ -61,12 +55,10 @@ pub fn put_slot_row(slots: &[u8], row: &[u8], part: &mut [u8])
     ensures { SlotRow slots.now (λ i. get_or row.now i 0) part.new }
 {
     let count = slots.len() / 4;
-    let mut q = 0;
-    while q < count {
-        let term = slots[4 * q + 3] as usize;
-        let below = slots[4 * q + 2] as usize;
+    for q in 0..count {
+        let term = usize::from(slots[4 * q + 3]);
+        let below = usize::from(slots[4 * q + 2]);
         part[q] = row[term];
         part[count + q] = row[below];
-        q += 1;
     }
 }

@@ -1,41 +1,48 @@
 -- Laws of arc consistency: support, what goes, and that it belongs to no consistent placement.
 -- Assumes nothing.
 use mathlib.Core.Path.{◌≡◌, refl, sym, ap, subst, ◌∙◌}
-use mathlib.Core.Bool.{Bool, true, false}
-use mathlib.Core.Logic.{◌⊎◌, ⊎_elim, dite}
+use mathlib.Core.Bool.{Bool, true, false, ◌||◌}
+use mathlib.Core.Logic.{dite, ◌↔◌}
 use mathlib.Core.List.{List}
+use Rattle.std.specs.Prelude.{Option, Some, None}
 use Prim.Native.Nat.{ℕ, ◌+◌, ◌*◌, ◌≤◌, ◌<◌}
 use native.Mathlib.Decide.{ℕ_discrete, dec_lt}
 use native.Mathlib.Omega.{arith}
-use lib.ListN.{length, get_or, take, set}
+use lib.ListN.{length, length-set, get_or, take, set}
 use lib.Seq.{get_or-set_same, get_or-set_other}
 use Rattle.chain.proofs.Decisions.{never}
 use Rattle.chain.proofs.Search.{rank_same}
-use Rattle.gradings.specs.declared.Logic.{Logic}
 use Rattle.levels.specs.Rows.{row_at}
 use Rattle.elimination.specs.Marks.{marked?}
 use Rattle.elimination.proofs.Marks.{rank_unmarked}
-use Rattle.network.specs.Network.{between}
 use Rattle.domains.specs.Tables.{Allowed}
-use Rattle.domains.specs.Gaps.{SameAllowed}
-use Rattle.domains.specs.Consistent.{FitsBy, Consistent, Graded}
-use Rattle.boxes.specs.Boxes.{BoxOf, Narrowed}
-use Rattle.supports.specs.Arcs.{Holder, Sought, Tried, left, Went, RevisedBy, SupportedBy, Pruned, Revised}
+use Rattle.domains.specs.Gaps.{Gaps, NotedAll, SameAllowed}
+use Rattle.domains.proofs.Gaps.{gaps-set, gaps-noted}
+use Rattle.domains.specs.declared.Instance.{Instance}
+use Rattle.boxes.specs.Boxes.{BoxOf, Narrowed, Inside}
+use Rattle.boxes.specs.declared.Bound.{Bound}
+use Rattle.supports.specs.Arcs.{FitsIn, ConsistentIn, Domains, Sought, Supported, Tried, left, Went, RevisedBy, SupportedBy, Pruned, Revised}
 use Rattle.boxes.proofs.Boxes.{box_of_lem}
 
 -- ---- support
 
 -- what is found in the box of the rows that are compatible is support
-module _ (lg : Logic) (m : ℕ) (forth back : List ℕ) (count n : ℕ) (rows table : List ℕ) (i c r : ℕ) (in-i : i < n) (graded : Graded lg m count n rows table) where
-  pub tried_of : (row old new : List ℕ) (k : ℕ) → row ≡ row_at rows c → Narrowed lg m (FitsBy lg forth back row) old 0 new k → 3 * k ≤ length new
-      → Sought (take (3 * k) new) table rows i 0 count r → Tried lg forth back count rows table i c r
-  tried_of row old new k same w long s = record {
-    found = λ l. let h = s.found l in (r, l, h.0, (of.exact (row_at rows r) (graded i r in-i l h.0)).0 h.1);
-    none = λ l h. s.none l h.0 (omega arith) h.1 (h.2, (of.exact (row_at rows h.0) (graded i h.0 in-i h.1 h.2)).1 h.3);
-  }
+module _ (p : Instance) (table : List ℕ) (domains : Domains p table) (j i c : ℕ) (in-i : i < p.individuals) where
+  pub tried_of : (found : Option ℕ) (row : List ℕ) (old new : List Bound) (k : ℕ) → row ≡ row_at p.rows.now c
+      → Narrowed p.network.logic p.network.columns (FitsIn p j i row) old 0 new k → k ≤ length new
+      → Sought p (take k new) table i 0 p.count found → Tried p table j i c found
+  tried_of found row old new k same w long = go found
     where
-      of : BoxOf lg m (FitsBy lg forth back (row_at rows c)) (take (3 * k) new)
-      of = subst (λ (v : List ℕ). BoxOf lg m (FitsBy lg forth back v) (take (3 * k) new)) same (box_of_lem lg m (FitsBy lg forth back row) old new k w long)
+      of : BoxOf p.network.logic p.network.columns (FitsIn p j i (row_at p.rows.now c)) (take k new)
+      of = subst (λ (v : List ℕ). BoxOf p.network.logic p.network.columns (FitsIn p j i v) (take k new)) same
+          (box_of_lem p.network.logic p.network.columns (FitsIn p j i row) old new k w long)
+
+      asked : (d : ℕ) → d < p.count → Allowed table i d → Inside (take k new) (row_at p.rows.now d) ↔ FitsIn p j i (row_at p.rows.now c) (row_at p.rows.now d)
+      asked d l a = of.exact (row_at p.rows.now d) (domains.graded i d in-i l a)
+
+      go : (found : Option ℕ) → Sought p (take k new) table i 0 p.count found → Tried p table j i c found
+      go None s = λ h. s h.0 (omega arith) h.1 (h.2, (asked h.0 h.1 h.2).1 h.3)
+      go (Some d) s = (s.0, (d, s.0, s.1.0, (asked d s.0 s.1.0).0 s.1.1))
 
 -- ---- what is left
 
@@ -47,47 +54,47 @@ went_le : (b : Bool) (old new : List ℕ) → Went b old new → left new ≤ le
 went_le true old new h = omega (arith, h)
 went_le false old new h = omega (arith, ap left h)
 
-pub went_less : (b : Bool) (old new : List ℕ) → b ≡ true → Went b old new → left new < left old
+went_less : (b : Bool) (old new : List ℕ) → b ≡ true → Went b old new → left new < left old
 went_less b old new e h = subst (λ (x : Bool). Went x old new) e h
 
-pub went-not : (b : Bool) (old new : List ℕ) → b ≡ false → Went b old new → new ≡ old
+went-not : (b : Bool) (old new : List ℕ) → b ≡ false → Went b old new → new ≡ old
 went-not b old new e h = subst (λ (x : Bool). Went x old new) e h
 
 -- one candidate goes
 went_one : (b : Bool) (old new : List ℕ) (x : ℕ) → x < 131072 → get_or new x 0 ≡ 1 → Went b old new → Went true old (set new x 0)
 went_one b old new x l a h = omega (arith, went_le b old new h, rank_unmarked new x 131072 a l)
 
-pub graded-fewer : (lg : Logic) (m count n : ℕ) (rows old new : List ℕ) → ((x : ℕ) → get_or new x 0 ≡ 1 → get_or old x 0 ≡ 1) → Graded lg m count n rows old
-    → Graded lg m count n rows new
-graded-fewer lg m count n rows old new fewer g j c l h a = g j c l h (fewer (16384 * j + c) a)
+-- a table that is as long, has no other candidates, and has its gaps noted
+domains_fewer : (p : Instance) (old new : List ℕ) → length new ≡ length old → ((x : ℕ) → get_or new x 0 ≡ 1 → get_or old x 0 ≡ 1)
+    → Gaps new p.individuals p.count → Domains p old → Domains p new
+domains_fewer p old new same fewer gaps w = record {
+  long = omega (arith, w.long);
+  gaps = gaps;
+  graded = λ j c l h a. w.graded j c l h (fewer (16384 * j + c) a);
+}
+
+-- where one candidate goes
+fewer_set : (table : List ℕ) (at : ℕ) → at < length table → (x : ℕ) → get_or (set table at 0) x 0 ≡ 1 → get_or table x 0 ≡ 1
+fewer_set table at room x h = dite (ℕ_discrete x at)
+    (λ e. absurd (omega (arith, h, subst (λ (y : ℕ). get_or (set table at 0) y 0 ≡ 0) (sym e) (get_or-set_same table at 0 0 room))))
+    (λ n. sym (get_or-set_other table at x 0 0 n) ∙ h)
+
+pub domains_set : (p : Instance) (table : List ℕ) (j c : ℕ) → 16384 * j + c < length table → Domains p table → Domains p (set table (16384 * j + c) 0)
+domains_set p table j c room w =
+    domains_fewer p table (set table (16384 * j + c) 0) (length-set table (16384 * j + c) 0) (fewer_set table (16384 * j + c) room)
+    (gaps-set table p.individuals p.count j c w.gaps) w
+
+-- where gaps are noted
+pub domains_noted : (p : Instance) (j : ℕ) (old new : List ℕ) → length new ≡ length old → Domains p old → NotedAll j p.count old new → Domains p new
+domains_noted p j old new same w noted =
+    domains_fewer p old new same (λ x. (noted.same x).0) (gaps-noted j p.individuals p.count old new p.problem.candidates_few w.gaps noted) w
 
 -- ---- the revision of one individual by another, candidate by candidate
 
-module _ (lg : Logic) (forth back : List ℕ) (count : ℕ) (rows : List ℕ) (j i : ℕ) where
-  pub revised_start : (table : List ℕ) → RevisedBy lg forth back count rows j i 0 false table table
-  revised_start table = record {
-    fewer = λ x h. h;
-    others = λ x _. refl;
-    gone = λ c _ a n. absurd (n a);
-    went = refl;
-    held = λ _ c l. absurd (omega arith);
-  }
-
-  module _ (k : ℕ) (b : Bool) (old new : List ℕ) (w : RevisedBy lg forth back count rows j i k b old new) where
-    -- candidates that j may not have are passed over
-    pub revised_leap : (g : ℕ) → ((e : ℕ) → k ≤ e → e < k + g → ¬ Allowed new j e) → RevisedBy lg forth back count rows j i (k + g) b old new
-    revised_leap g gap = record {
-      fewer = w.fewer;
-      others = w.others;
-      gone = w.gone;
-      went = w.went;
-      held = λ e c l a. dite (dec_lt c k)
-          (λ h. w.held e c h a)
-          (λ h. absurd (gap c (omega arith) l (subst (λ (t : List ℕ). Allowed t j c) (sym (went-not b old new e w.went)) a)));
-    }
-
+module _ (p : Instance) (j i : ℕ) where
+  module _ (k : ℕ) (b : Bool) (old new : List ℕ) (w : RevisedBy p j i k b old new) where
     -- one that has support stays
-    pub revised_kept : Holder count rows new i (FitsBy lg forth back (row_at rows k)) → RevisedBy lg forth back count rows j i (k + 1) b old new
+    pub revised_kept : Supported p new j i k → RevisedBy p j i (k + 1) b old new
     revised_kept s = record {
       fewer = w.fewer;
       others = w.others;
@@ -96,142 +103,91 @@ module _ (lg : Logic) (forth back : List ℕ) (count : ℕ) (rows : List ℕ) (j
       held = λ e c l a. dite (dec_lt c k)
           (λ h. w.held e c h a)
           (λ h. let z : k ≡ c = omega arith in
-          subst (λ (x : ℕ). Holder count rows old i (FitsBy lg forth back (row_at rows x))) z
-          (subst (λ (t : List ℕ). Holder count rows t i (FitsBy lg forth back (row_at rows k))) (went-not b old new e w.went) s));
-    }
-
-    pub revised_below : (m : ℕ) → m ≤ k → RevisedBy lg forth back count rows j i m b old new
-    revised_below m h = record {
-      fewer = w.fewer;
-      others = w.others;
-      gone = w.gone;
-      went = w.went;
-      held = λ e c l. w.held e c (omega arith);
+          subst (λ (x : ℕ). Supported p old j i x) z
+          (subst (λ (t : List ℕ). Supported p t j i k) (went-not b old new e w.went) s));
     }
 
     -- one that has none goes
-    pub revised_taken : count ≤ 16384 → ¬ (i ≡ j) → k < count → 16384 * j + k < 131072 → 131072 ≤ length new → Allowed new j k
-        → ¬ Holder count rows new i (FitsBy lg forth back (row_at rows k)) → RevisedBy lg forth back count rows j i (k + 1) true old (set new (16384 * j + k) 0)
-    revised_taken small apart in-k room long on none = record {
-      fewer = λ x h. dite (ℕ_discrete x (16384 * j + k))
-          (λ e. absurd (omega (arith, h, subst (λ (y : ℕ). get_or next y 0 ≡ 0) (sym e) here)))
-          (λ n. w.fewer x (sym (elsewhere x n) ∙ h));
+    pub revised_taken : ¬ (i ≡ j) → k < p.count → 16384 * j + k < 131072 → 131072 ≤ length new → Allowed new j k
+        → ¬ Supported p new j i k → RevisedBy p j i (k + 1) true old (set new (16384 * j + k) 0)
+    revised_taken apart in-k room long on none = record {
+      fewer = λ x h. w.fewer x (fewer_set new (16384 * j + k) (omega arith) x h);
       others = λ x f. elsewhere x (f k in-k) ∙ w.others x f;
       gone = λ c l a n. dite (ℕ_discrete c k)
-          (λ e h. none (subst (λ (x : ℕ). Holder count rows new i (FitsBy lg forth back (row_at rows x))) e (moved c h)))
+          (λ e h. none (subst (λ (x : ℕ). Supported p new j i x) e (moved c h)))
           (λ d. w.gone c l a (λ o. n (elsewhere (16384 * j + c) (λ e. d (omega arith)) ∙ o)));
       went = went_one b old new (16384 * j + k) room on w.went;
       held = λ e. never e;
     }
       where
-        next : List ℕ
-        next = set new (16384 * j + k) 0
-
-        here : get_or next (16384 * j + k) 0 ≡ 0
-        here = get_or-set_same new (16384 * j + k) 0 0 (omega arith)
-
-        elsewhere : (x : ℕ) → ¬ (x ≡ 16384 * j + k) → get_or next x 0 ≡ get_or new x 0
+        elsewhere : (x : ℕ) → ¬ (x ≡ 16384 * j + k) → get_or (set new (16384 * j + k) 0) x 0 ≡ get_or new x 0
         elsewhere x n = get_or-set_other new (16384 * j + k) x 0 0 n
 
         -- the candidates of i are as they were
-        moved : (c : ℕ) → Holder count rows old i (FitsBy lg forth back (row_at rows c)) → Holder count rows new i (FitsBy lg forth back (row_at rows c))
+        moved : (c : ℕ) → Supported p old j i c → Supported p new j i c
         moved c h =
             let l = h.1 in
-            (h.0, l, w.others (16384 * i + h.0) (λ d u e. apart (omega (arith, small))) ∙ h.2, h.3)
+            (h.0, l, w.others (16384 * i + h.0) (λ d u e. apart (omega (arith, p.problem.candidates_few))) ∙ h.2, h.3)
 
 -- ---- what is taken away belongs to no consistent placement
 
-module _ (lg : Logic) (net ends : List ℕ) (count : ℕ) (rows : List ℕ) (n : ℕ) where
-  pub pruned-none : (table : List ℕ) → Pruned lg net ends count rows n table table
-  pruned-none table = record { fewer = λ x h. h; keeps = λ s h. h }
-
-  pub pruned-then : (a b c : List ℕ) → Pruned lg net ends count rows n a b → Pruned lg net ends count rows n b c → Pruned lg net ends count rows n a c
+module _ (p : Instance) where
+  pruned-then : (a b c : List ℕ) → Pruned p a b → Pruned p b c → Pruned p a c
   pruned-then a b c w u = record { fewer = λ x h. w.fewer x (u.fewer x h); keeps = λ s h. u.keeps s (w.keeps s h) }
 
   -- the same candidates, with other gaps
-  pruned-same : (old new : List ℕ) → SameAllowed old new → Pruned lg net ends count rows n old new
+  pruned-same : (old new : List ℕ) → SameAllowed old new → Pruned p old new
   pruned-same old new f = record {
     fewer = λ x. (f x).0;
     keeps = λ s w. record { below = w.below; allowed = λ k l. (f (16384 * k + s k)).1 (w.allowed k l); fits = w.fits };
   }
 
   -- by the constraints between j and i
-  module _ (j i : ℕ) (in-j : j < n) (in-i : i < n) (apart : ¬ (i ≡ j)) (small : count ≤ 16384) where
-    pruned_by : (k : ℕ) (b : Bool) (old new : List ℕ) → RevisedBy lg (between net ends j i) (between net ends i j) count rows j i k b old new
-        → Pruned lg net ends count rows n old new
+  module _ (j i : ℕ) (in-j : j < p.individuals) (in-i : i < p.individuals) (apart : ¬ (i ≡ j)) where
+    pruned_by : (k : ℕ) (b : Bool) (old new : List ℕ) → RevisedBy p j i k b old new
+        → Pruned p old new
     pruned_by k b old new w = record {
       fewer = w.fewer;
       keeps = λ s u. record { below = u.below; allowed = λ h l. stays s u h l; fits = u.fits };
     }
       where
-        own : (s : ℕ → ℕ) → Consistent lg net ends count rows n old s → Allowed new j (s j)
+        own : (s : ℕ → ℕ) → ConsistentIn p old s → Allowed new j (s j)
         own s u = dite (ℕ_discrete (get_or new (16384 * j + s j) 0) 1)
             (λ e. e)
             (λ m. absurd (w.gone (s j) (u.below j in-j) (u.allowed j in-j) m
             (s i, u.below i in-i, u.allowed i in-i, u.fits j i in-j in-i apart)))
 
-        stays : (s : ℕ → ℕ) → Consistent lg net ends count rows n old s → (h : ℕ) → h < n → Allowed new h (s h)
+        stays : (s : ℕ → ℕ) → ConsistentIn p old s → (h : ℕ) → h < p.individuals → Allowed new h (s h)
         stays s u h l = dite (ℕ_discrete h j)
             (λ e. subst (λ (x : ℕ). Allowed new x (s x)) (sym e) (own s u))
-            (λ m. let z = u.below h l in w.others (16384 * h + s h) (λ d v e. m (omega (arith, small))) ∙ u.allowed h l)
-
-    -- no candidate went
-    pub revised_not : (forth back : List ℕ) (b : Bool) (old new : List ℕ) → forth ≡ between net ends j i → back ≡ between net ends i j → b ≡ false
-        → RevisedBy lg forth back count rows j i count b old new → Revised lg net ends count rows n (SupportedBy lg net ends count rows j i) false old new
-    revised_not forth back b old new ef eb e w = record {
-      pruned = pruned_by count b old new u;
-      went = went-not b old new e w.went;
-      held = λ _ _ c l a. u.held e c l a;
-    }
-      where
-        u : RevisedBy lg (between net ends j i) (between net ends i j) count rows j i count b old new
-        u = subst (λ (x : List ℕ). RevisedBy lg x (between net ends i j) count rows j i count b old new) ef
-            (subst (λ (x : List ℕ). RevisedBy lg forth x count rows j i count b old new) eb w)
+            (λ m. let z = u.below h l in w.others (16384 * h + s h) (λ d v e. m (omega (arith, p.problem.candidates_few))) ∙ u.allowed h l)
 
     -- candidates went, and the gaps are noted
-    pub revised_noted : (forth back : List ℕ) (b : Bool) (old mid new : List ℕ) → forth ≡ between net ends j i → back ≡ between net ends i j → b ≡ true
-        → RevisedBy lg forth back count rows j i count b old mid → SameAllowed mid new
-        → Revised lg net ends count rows n (SupportedBy lg net ends count rows j i) true old new
-    revised_noted forth back b old mid new ef eb e w same = record {
-      pruned = pruned-then old mid new (pruned_by count b old mid u) (pruned-same mid new same);
+    pub revised_noted : (b : Bool) (old mid new : List ℕ) → b ≡ true → RevisedBy p j i p.count b old mid → SameAllowed mid new
+        → Revised p (SupportedBy p j i) true old new
+    revised_noted b old mid new e w same = record {
+      pruned = pruned-then old mid new (pruned_by p.count b old mid w) (pruned-same mid new same);
       went = omega (arith, went_less b old mid e w.went, left-same mid new same);
       held = λ z. never z;
     }
-      where
-        u : RevisedBy lg (between net ends j i) (between net ends i j) count rows j i count b old mid
-        u = subst (λ (x : List ℕ). RevisedBy lg x (between net ends i j) count rows j i count b old mid) ef
-            (subst (λ (x : List ℕ). RevisedBy lg forth x count rows j i count b old mid) eb w)
 
   -- ---- one revision after the other
 
-  pub revised_none : (Q : List ℕ → Type 0) (table : List ℕ) → Q table → Revised lg net ends count rows n Q false table table
-  revised_none Q table q = record { pruned = pruned-none table; went = refl; held = λ _. q }
-
-  pub revised_map : (Q R : List ℕ → Type 0) (b : Bool) (old new : List ℕ) → (Q old → R old) → Revised lg net ends count rows n Q b old new
-      → Revised lg net ends count rows n R b old new
-  revised_map Q R b old new f w = record { pruned = w.pruned; went = w.went; held = λ e. f (w.held e) }
-
-  module _ (Q R S : List ℕ → Type 0) (a b c : List ℕ) (x y : Bool) (w : Revised lg net ends count rows n Q x a b)
-      (u : Revised lg net ends count rows n R y b c) where
-    -- the second took candidates away
-    revised_on : y ≡ true → Revised lg net ends count rows n S true a c
-    revised_on e = record {
-      pruned = pruned-then a b c w.pruned u.pruned;
-      went = omega (arith, went_le x a b w.went, went_less y b c e u.went);
-      held = λ z. never z;
-    }
-
-    -- it took none
-    revised_off : y ≡ false → ((t : List ℕ) → Q t → R t → S t) → Revised lg net ends count rows n S x a c
-    revised_off e f = record {
-      pruned = pruned-then a b c w.pruned u.pruned;
-      went = subst (λ (t : List ℕ). Went x a t) (sym (went-not y b c e u.went)) w.went;
-      held = λ z. f a (w.held z) (subst R (went-not x a b z w.went) (u.held e));
-    }
-
-    -- as code notes it
-    pub revised_next : (z : Bool) → ((t : List ℕ) → Q t → R t → S t) → ((y ≡ true) × (z ≡ true)) ⊎ ((y ≡ false) × (z ≡ x))
-        → Revised lg net ends count rows n S z a c
-    revised_next z f =
-        ⊎_elim (λ h. subst (λ (q : Bool). Revised lg net ends count rows n S q a c) (sym h.1) (revised_on h.0))
-        (λ h. subst (λ (q : Bool). Revised lg net ends count rows n S q a c) (sym h.1) (revised_off h.0 f))
+  -- whether candidates went, in one or the other
+  pub revised_or : (Q R S : List ℕ → Type 0) (a b c : List ℕ) (x y : Bool) → ((t : List ℕ) → Q t → R t → S t)
+      → Revised p Q x a b → Revised p R y b c → Revised p S (x || y) a c
+  revised_or Q R S a b c true y f w u = record {
+    pruned = pruned-then a b c w.pruned u.pruned;
+    went = omega (arith, w.went, went_le y b c u.went);
+    held = λ z. never z;
+  }
+  revised_or Q R S a b c false true f w u = record {
+    pruned = pruned-then a b c w.pruned u.pruned;
+    went = omega (arith, went_le false a b w.went, u.went);
+    held = λ z. never z;
+  }
+  revised_or Q R S a b c false false f w u = record {
+    pruned = pruned-then a b c w.pruned u.pruned;
+    went = u.went ∙ w.went;
+    held = λ z. f a (w.held z) (subst R w.went (u.held z));
+  }

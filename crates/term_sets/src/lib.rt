@@ -7,19 +7,13 @@ ghost use Rattle.std.specs.Prelude.{◌≡◌, ◌++◌, ◌↔◌, ℕ, ◌*◌
 ghost use Rattle.encoding.specs.Bits.{Bit};
 ghost use Rattle.term_sets.specs.Sets.{Gathered, Narrowed, set_row, set_table};
 
-// A word in which all 64 bits are set.
-const ALL: u64 = 18446744073709551615;
-
 // ---- one type
 
 // 1 where a grade is at least so high, and else 0.
 fn reaches(level: u8, g: u8) -> u64
     ensures { (result < 2) × ((result ≡ 1) ↔ (level ≤ g)) }
 {
-    if level <= g {
-        return 1;
-    }
-    0
+    u64::from(level <= g)
 }
 
 // The set of the terms that a row grades at least so high.
@@ -28,9 +22,7 @@ fn gather(row: &[u8], level: u8) -> u64
     ensures { Gathered row.now level result }
 {
     let mut word = 0;
-    let mut j = row.len();
-    while 0 < j {
-        j -= 1;
+    for j in (0..row.len()).rev() {
         word = word * 2 + reaches(level, row[j]);
     }
     word
@@ -43,7 +35,7 @@ fn narrow_one(row: &[u8], level: u8, word: u64, sets: &mut [u64], i: usize)
     ensures by_index_2 { (j : ℕ) → Bit (get_or sets.new i 0) j ↔ (Bit (get_or sets.old i 0) j × (get_or row.now i 0 ≡ level → Bit word j)) }
 {
     if row[i] == level {
-        sets[i] = sets[i] & word;
+        sets[i] &= word;
     }
 }
 
@@ -53,11 +45,8 @@ fn narrow_at(row: &[u8], level: u8, sets: &mut [u64])
     ensures { Narrowed (length row.now) sets.old sets.new (λ i j. get_or row.now i 0 ≡ level → level ≤ get_or row.now j 0) }
 {
     let word = gather(row, level);
-    let count = row.len();
-    let mut i = 0;
-    while i < count {
+    for i in 0..row.len() {
         narrow_one(row, level, word, sets, i);
-        i += 1;
     }
 }
 
@@ -66,10 +55,8 @@ pub fn narrow(row: &[u8], steps: u8, sets: &mut [u64])
     requires { (length row.now ≤ 64) × (length row.now ≤ length sets.old) × ((i : ℕ) → get_or row.now i 0 ≤ steps) }
     ensures { Narrowed (length row.now) sets.old sets.new (λ i j. get_or row.now i 0 ≤ get_or row.now j 0) }
 {
-    let mut level = steps;
-    while 0 < level {
+    for level in (1..=steps).rev() {
         narrow_at(row, level, sets);
-        level -= 1;
     }
 }
 
@@ -80,11 +67,7 @@ pub fn suppose_all(n: usize, sets: &mut [u64])
     requires { n ≤ length sets.old }
     ensures { (i : ℕ) → i < n → get_or sets.new i 0 ≡ 18446744073709551615 }
 {
-    let mut i = 0;
-    while i < n {
-        sets[i] = ALL;
-        i += 1;
-    }
+    sets[..n].fill(u64::MAX);
 }
 
 // Writes a set as a row of bytes.
@@ -92,11 +75,8 @@ fn write_set(word: u64, row: &mut [u8])
     requires { length row.old ≤ 64 }
     ensures { row.new ≡ set_row (length row.old) word }
 {
-    let count = row.len();
-    let mut j = 0;
-    while j < count {
+    for j in 0..row.len() {
         row[j] = ((word >> j) % 2) as u8;
-        j += 1;
     }
 }
 
@@ -105,11 +85,8 @@ pub fn write_sets(sets: &[u64], n: usize, table: &mut [u8])
     requires { (n ≤ 64) × (n ≤ length sets.now) × (n * n ≤ length table.old) }
     ensures { table.new ≡ set_table n sets.now n ++ drop (n * n) table.old }
 {
-    let mut i = 0;
-    while i < n {
+    for i in 0..n {
         let start = i * n;
-        let end = start + n;
-        write_set(sets[i], &mut table[start..end]);
-        i += 1;
+        write_set(sets[i], &mut table[start..start + n]);
     }
 }

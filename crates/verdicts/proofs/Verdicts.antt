@@ -20,12 +20,13 @@ use Rattle.working.proofs.Working.{verdict_same}
 use Rattle.sheets.specs.Reading.{interpretation}
 use Rattle.sheets.proofs.Reading.{everywhere}
 use Rattle.columns.specs.Columns.{cell_at, HoldsGrades}
+use Rattle.columns.specs.declared.Columns.{Columns}
 use Rattle.verdicts.specs.Verdicts.{verdict_in, Covered}
 use Rattle.cells.specs.Cells.{Seated}
 
 -- ---- the verdict on the book
 
-module _ (G : Grading) (rs ps ms qs : List ℕ) (n A : ℕ) (ns ls js v : List ℕ) where
+module _ (G : Grading) (rs ps ms qs : List ℕ) (n A : ℕ) (ns ls js : List ℕ) (v : Columns) where
   abbrev book : Book
   book = book_of_sections G rs ps ms qs
 
@@ -41,14 +42,12 @@ module _ (G : Grading) (rs ps ms qs : List ℕ) (n A : ℕ) (ns ls js v : List �
 
 -- ---- what the checks establish: on rules and claims against t terms, and on a sheet with as many individuals and roles, of pairs too, as the book counts
 
-module _ (rs ps ms qs v : List ℕ) (n : ℕ) (ls js : List ℕ) (N t R : ℕ) where
-  pub covered : n ≤ 64 → Seated n js → RulesRight rs t → MembershipsRight ms N t → 64 * t ≤ length v
+module _ (rs ps ms qs : List ℕ) (n : ℕ) (ls js : List ℕ) (N t R : ℕ) where
+  pub covered : RulesRight rs t → MembershipsRight ms N t → t ≤ 64
       → max (highest membership_individuals (memberships_of ms)) (highest link_individuals (links_of qs)) ≤ length js
-      → max (highest link_roles (links_of qs)) (highest pair_roles (pairs_of ps)) ≤ R → R * (n * n) ≤ length ls → Covered rs ps ms qs v n ls js
+      → max (highest link_roles (links_of qs)) (highest pair_roles (pairs_of ps)) ≤ R → R * (n * n) ≤ length ls → Covered rs ps ms qs n ls js
   unfolding pairs_of memberships_of links_of
-  covered h s r m c i l w = record {
-    size = h;
-    seated = s;
+  covered r m c i l w = record {
     rules_right = λ k b. let a = r k b in (omega arith, omega arith);
     pairs_covered = λ k b.
         let a = highest-at pair_roles (pair_at ps) (pair_count ps) k b in (

@@ -3,19 +3,13 @@
 #![tactic(auto)]
 
 ghost use Rattle.std.specs.Prelude.{◌≡◌};
-ghost use Rattle.working.specs.Working.{or_else};
 ghost use Rattle.verdicts.specs.Verdicts.{verdict_in, Covered};
 
-use cells::met;
+use cells::Frame;
 use claim_verdicts::{links_verdict, memberships_verdict};
+use columns::Columns;
 use rule_verdicts::{pairs_verdict, rules_verdict};
 use working::Verdict;
-
-fn or_else(first: Verdict, second: Verdict) -> Verdict
-    ensures { result ≡ or_else first second }
-{
-    if met(first) { second } else { first }
-}
 
 // The first rule broken, else the first pair, else the first membership claim, else the first link claim.
 pub fn verdict(
@@ -23,18 +17,14 @@ pub fn verdict(
     pairs: &[u8],
     memberships: &[u8],
     claims: &[u8],
-    values: &[u8],
-    n: usize,
-    links: &[u8],
-    individuals: &[u8],
+    columns: &Columns,
+    frame: &Frame,
 ) -> Verdict
-    requires { Covered rules.now pairs.now memberships.now claims.now values.now n links.now individuals.now }
-    ensures { result ≡ verdict_in rules.now pairs.now memberships.now claims.now values.now n links.now individuals.now }
+    requires { Covered rules.now pairs.now memberships.now claims.now frame.now.elements frame.now.links.now frame.now.individuals.now }
+    ensures { result ≡ verdict_in rules.now pairs.now memberships.now claims.now columns.now frame.now.elements frame.now.links.now frame.now.individuals.now }
 {
-    let on_rules = rules_verdict(rules, values, n);
-    let on_pairs = pairs_verdict(pairs, n, links);
-    let on_memberships = memberships_verdict(memberships, values, n, individuals);
-    let on_links = links_verdict(claims, n, links, individuals);
-    let on_claims = or_else(on_memberships, on_links);
-    or_else(on_rules, or_else(on_pairs, on_claims))
+    rules_verdict(rules, columns, frame.elements)
+        .or_else(|| pairs_verdict(pairs, frame))
+        .or_else(|| memberships_verdict(memberships, columns, frame))
+        .or_else(|| links_verdict(claims, frame))
 }

@@ -1,229 +1,211 @@
 -- Laws of the search for witnesses by the tables.
 -- Assumes nothing.
-use mathlib.Core.Path.{◌≡◌, refl, sym, ap, subst, ◌∙◌}
+use mathlib.Core.Path.{◌≡◌, refl, sym, subst, ◌∙◌}
 use mathlib.Core.Logic.{dite, ◌↔◌}
-use mathlib.Core.List.{List, []}
+use mathlib.Core.List.{List}
 use Prim.Native.Nat.{ℕ, ◌+◌, ◌-◌, ◌*◌, ◌/◌, ◌≤◌, ◌<◌}
 use native.Mathlib.Decide.{ℕ_discrete, dec_lt}
 use native.Mathlib.Nat.{le_refl, le_trans}
 use native.Mathlib.Omega.{arith}
-use lib.ListN.{length, get_or, set, length-set}
+use lib.ListN.{length, get_or, set}
 use lib.Seq.{get_or-set_same, get_or-set_other}
 use borrow.Author.Count.{below_more}
-use Rattle.chain.specs.Connectives.{Within, Bounds}
+use Rattle.std.proofs.Common.{Option, None, Some}
+use Rattle.chain.specs.Decisions.{dec_and}
 use Rattle.chain.proofs.Connectives.{within_trans, through_mono}
-use Rattle.semantics.specs.Links.{Governs}
-use Rattle.sections.proofs.Terms.{by_some, by_all}
-use Rattle.gradings.specs.Gradings.{connectives_of, grading}
-use Rattle.gradings.specs.declared.Logic.{Logic}
+use Rattle.gradings.specs.Gradings.{connectives_of}
 use Rattle.gradings.proofs.Gradings.{logic-lawful}
-use Rattle.boxes.specs.Boxes.{OnChain, Inside, Asks, BoxOf, Narrowed}
-use Rattle.boxes.proofs.Boxes.{asks_to, asks_from, narrowed_kept, narrowed_last, box-part}
-use Rattle.zones.specs.Zones.{row_in, zone_in, Lies}
-use Rattle.zones.proofs.Zones.{row_at}
-use Rattle.slots.specs.Slots.{slot_count, slot_kind, slot_role, slot_quantifier}
+use Rattle.boxes.specs.Boxes.{OnChain, bound_at, BoxOf, Narrowed}
+use Rattle.boxes.specs.declared.Bound.{Bound}
+use Rattle.boxes.proofs.Boxes.{narrowed_kept, narrowed_last, box-part}
+use Rattle.zones.specs.Rows.{row_in, cell}
+use Rattle.zones.specs.Zones.{zone_in, Lies}
+use Rattle.zones.specs.declared.Zone.{Zone}
+use Rattle.zones.proofs.Rows.{put_cell, cell-put_same, cell-put_other}
+use Rattle.slots.specs.Slots.{slot_count, slot_quantifier}
 use Rattle.elimination.specs.Marks.{Marked}
 use Rattle.elimination.proofs.Marks.{marked_lt}
-use Rattle.witness_boxes.specs.Tables.{cell, Tables, Ready}
-use Rattle.witness_boxes.specs.Search.{AllowsAt, WantsAt, AllowsRow, BoxFor, Boxes, Witness, box_of, Legible, InBox, MissedAt, Unreached, Leapt, NextHit, NextWitness, Remembered, Remembers, Backed}
+use Rattle.witness_boxes.specs.Tables.{Tables, Ready}
+use Rattle.witness_boxes.specs.declared.Span.{Span}
+use Rattle.witness_boxes.specs.declared.Boxes.{Boxes}
+use Rattle.witness_boxes.specs.Search.{WantsAt, AllowsRow, span_at, box_of, BoxAt, BoxFor, Boxed, Witness, Legible, InBox, MissedAt, Unreached, Leapt, NextHit, NextWitness, Remembered, Remembers, Backed}
 
 -- ---- the boxes of slot q of source c
 
-module _ (lg : Logic) (slots own : List ℕ) (c q : ℕ) where
-  -- what slot j asks of the row of a target, as a bound, by its role and its kind
-  module _ (v j : ℕ) (hj : j < slot_count slots) where
-    abbrev AllowsIn : List ℕ → Type 0
-    AllowsIn row = AllowsAt lg slots own c q v j (get_or row j 0)
+module _ (T : Tables) (c q : ℕ) where
+  -- one grade more
+  module _ (B : Boxes) (x : ℕ) (room : x < length B.spans) (M : Boxed B T c q x) where
+    abbrev put : Option Span → List Bound → ℕ → Boxes
+    put o bounds count = record { spans = set B.spans x o; bounds = bounds; count = count }
 
-    pub bound_other : ¬ Governs (grading lg []) (slot_role slots j) (slot_role slots q)
-        → Asks lg (slot_count slots) AllowsIn (record { column = j; low = 0; high = lg.steps })
-    bound_other n = asks_to lg (slot_count slots) j lg.steps hj AllowsIn (λ row on. (λ _ w. absurd (n w), λ _. on j hj))
-
-    module _ (w : Governs (grading lg []) (slot_role slots j) (slot_role slots q)) (e : ℕ)
-        (f : Bounds lg.steps (connectives_of lg) (slot_quantifier slots j) v (cell own c j) e) where
-      allowed : (row : List ℕ) → OnChain lg (slot_count slots) row → Within (slot_quantifier slots j) (get_or row j 0) e ↔ AllowsIn row
-      allowed row on = let u = f (get_or row j 0) (on j hj) in (λ p _. u.0 p, λ p. u.1 (p w))
-
-      pub bound_some : slot_kind slots j ≡ 4 → Asks lg (slot_count slots) AllowsIn (record { column = j; low = 0; high = e })
-      bound_some k =
-          asks_to lg (slot_count slots) j e hj AllowsIn
-          (λ row on. by_some (λ z. Within z (get_or row j 0) e ↔ AllowsIn row → (get_or row j 0 ≤ e) ↔ AllowsIn row) (slot_kind slots j) k (λ h. h) (allowed row on))
-
-      pub bound_all : 4 ≤ slot_kind slots j → slot_kind slots j ≤ 5 → ¬ (slot_kind slots j ≡ 4)
-          → Asks lg (slot_count slots) AllowsIn (record { column = j; low = e; high = lg.steps })
-      bound_all l m n =
-          asks_from lg (slot_count slots) j e hj AllowsIn
-          (λ row on. by_all (λ z. Within z (get_or row j 0) e ↔ AllowsIn row → (e ≤ get_or row j 0) ↔ AllowsIn row) (slot_kind slots j) l m n (λ h. h) (allowed row on))
-
-  -- one grade more, which wants level v, in the three ways of the code
-  module _ (wanted spans bounds : List ℕ) (x v k : ℕ) (room : x < length wanted) (B : Boxes lg slots own c q wanted spans bounds x k)
-      (w : WantsAt lg slots own c q x v) where
-    boxes_more : (spans' bounds' : List ℕ) (r : ℕ) → k ≤ r → ((z : ℕ) → z < 3 * k → get_or bounds' z 0 ≡ get_or bounds z 0)
-        → ((y : ℕ) → y < 2 * x → get_or spans' y 0 ≡ get_or spans y 0)
-        → BoxFor lg slots own c q bounds' r x v (get_or spans' (2 * x) 0) (get_or spans' (2 * x + 1) 0) → Boxes lg slots own c q (set wanted x v) spans' bounds' (x + 1) r
-    boxes_more spans' bounds' r more kept same new =
-        below_more (λ y. BoxFor lg slots own c q bounds' r y (get_or (set wanted x v) y 0) (get_or spans' (2 * y) 0) (get_or spans' (2 * y + 1) 0)) x
-        (λ y h. let u = B y h in
-        rw (get_or-set_other wanted x y v 0 (omega arith), same (2 * y) (omega arith), same (2 * y + 1) (omega arith)) (record {
+    boxed_more : (o : Option Span) (bounds : List Bound) (count : ℕ) → B.count ≤ count
+        → ((z : ℕ) → z < B.count → bound_at bounds z ≡ bound_at B.bounds z) → BoxFor (put o bounds count) T c q x o
+        → Boxed (put o bounds count) T c q (x + 1)
+    boxed_more o bounds count more kept new =
+        below_more (λ y. BoxFor (put o bounds count) T c q y (span_at (put o bounds count) y)) x
+        (λ y h. let u = M y h in
+        rw (get_or-set_other B.spans x y o None (omega arith)) (record {
+          level = u.level;
           wants = u.wants;
-          box = λ l. narrowed_kept lg (slot_count slots) _ bounds bounds' _ _ (λ z g. kept z (omega (arith, u.few l))) (u.box l);
-          few = λ l. omega (arith, u.few l);
+          none = u.none;
+          some = λ l. let s = u.some l in (
+            s.0,
+            s.1,
+            record {
+              level = s.2.level;
+              box = narrowed_kept T.logic (slot_count T.slots) _ B.bounds bounds _ _ (λ z g. kept z (omega (arith, s.2.few))) s.2.box;
+              few = omega (arith, s.2.few);
+            },
+          );
         }))
-        (rw (get_or-set_same wanted x v 0 room) new)
+        (rw (get_or-set_same B.spans x o None room) new)
 
-    -- no level on the chain is enough for it
-    pub boxes_none : lg.steps < v → Boxes lg slots own c q (set wanted x v) spans bounds (x + 1) k
-    boxes_none h =
-        boxes_more spans bounds k (omega arith) (λ z _. refl) (λ y _. refl)
-        (record { wants = w; box = λ l. absurd (omega arith); few = λ l. absurd (omega arith) })
-
-    module _ (long : 2 * x + 1 < length spans) where
-      -- its box has the numbers a and b
-      boxes_noted : (a b : ℕ) (bounds' : List ℕ) (r : ℕ) → k ≤ r → b ≤ r → ((z : ℕ) → z < 3 * k → get_or bounds' z 0 ≡ get_or bounds z 0)
-          → Narrowed lg (slot_count slots) (AllowsRow lg slots own c q v) bounds' a bounds' b
-          → Boxes lg slots own c q (set wanted x v) (set (set spans (2 * x) a) (2 * x + 1) b) bounds' (x + 1) r
-      boxes_noted a b bounds' r more few kept new =
-          let s = set spans (2 * x) a in
-          let e = length-set spans (2 * x) a in
-          let ha : get_or (set s (2 * x + 1) b) (2 * x) 0 ≡ a =
-          get_or-set_other s (2 * x + 1) (2 * x) b 0 (omega arith) ∙ get_or-set_same spans (2 * x) a 0 (omega arith) in
-          let hb : get_or (set s (2 * x + 1) b) (2 * x + 1) 0 ≡ b = get_or-set_same s (2 * x + 1) b 0 (omega arith) in
-          boxes_more (set s (2 * x + 1) b) bounds' r more kept
-          (λ y h. get_or-set_other s (2 * x + 1) y b 0 (omega arith) ∙ get_or-set_other spans (2 * x) y a 0 (omega arith)) (rw (ha, hb) (record { wants = w; box = λ _. new; few = λ _. few }))
-
-      -- the grade before wants the same: it has the same box
-      pub boxes_shared : 0 < x → v ≤ lg.steps → get_or (set wanted x v) (x - 1) 0 ≡ v
-          → Boxes lg slots own c q (set wanted x v) (set (set spans (2 * x) (get_or spans (2 * (x - 1)) 0)) (2 * x + 1) (get_or spans (2 * (x - 1) + 1) 0)) bounds (x + 1) k
-      boxes_shared h l g =
-          let u = B (x - 1) (omega arith) in
-          let e = sym (get_or-set_other wanted x (x - 1) v 0 (omega arith)) ∙ g in
-          boxes_noted (get_or spans (2 * (x - 1)) 0) (get_or spans (2 * (x - 1) + 1) 0) bounds k (omega arith) (u.few (omega (arith, e))) (λ z _. refl)
-          (subst (λ (z : ℕ). Narrowed lg (slot_count slots) (AllowsRow lg slots own c q z) bounds (get_or spans (2 * (x - 1)) 0) bounds (get_or spans (2 * (x - 1) + 1) 0)) e
-          (u.box (omega (arith, e))))
-
-      -- its box is made
-      pub boxes_made : (bounds' : List ℕ) (r : ℕ) → Narrowed lg (slot_count slots) (AllowsRow lg slots own c q v) bounds k bounds' r
-          → Boxes lg slots own c q (set wanted x v) (set (set spans (2 * x) k) (2 * x + 1) r) bounds' (x + 1) r
-      boxes_made bounds' r made =
-          boxes_noted k r bounds' r made.more (omega arith) made.kept (narrowed_last lg (slot_count slots) _ bounds k bounds' r made)
+    -- its box is made
+    pub boxed_made : (v : ℕ) → WantsAt T c q x v → v ≤ T.logic.steps → (bounds : List Bound) (count : ℕ) → Narrowed T.logic (slot_count T.slots) (AllowsRow T c q v) B.bounds B.count bounds count
+        → (s : Span) → s.level ≡ v → s.begin ≡ B.count → s.end ≡ count → Boxed (put (Some s) bounds count) T c q (x + 1)
+    boxed_made v w l bounds count made s g b e =
+        boxed_more (Some s) bounds count made.more made.kept
+        (record {
+          level = v;
+          wants = w;
+          none = λ k. absurd (omega arith);
+          some = λ _. (
+            s,
+            refl,
+            record {
+              level = g;
+              box = rw (b, e) (narrowed_last T.logic (slot_count T.slots) _ B.bounds B.count bounds count made);
+              few = omega arith;
+            },
+          );
+        })
 
 -- ---- the search
 
--- boxes that bound columns below m
-pub legible_more : (N m n : ℕ) (wanted spans bounds : List ℕ) → m ≤ n → Legible N wanted spans bounds m → Legible N wanted spans bounds n
-legible_more N m n wanted spans bounds h f x l w = let u = f x l w in (u.0, u.1, λ i g. omega (arith, u.2 i g))
-
-module _ (N : ℕ) (wanted spans bounds zone : List ℕ) where
-  -- one box for two grades
-  pub missed_shared : (x y : ℕ) → get_or wanted y 0 ≤ N → get_or spans (2 * x) 0 ≡ get_or spans (2 * y) 0 → get_or spans (2 * x + 1) 0 ≡ get_or spans (2 * y + 1) 0
-      → MissedAt N wanted spans bounds zone y → MissedAt N wanted spans bounds zone x
-  missed_shared x y w a b f _ m legible row lies = rw (a, b) (f w m legible row lies)
-
+module _ (B : Boxes) (m : ℕ) where
   -- a box that is missed is reached by no row of the zone, and a grade that no row has by none
-  pub missed_unreached : (q x : ℕ) → (255 ≤ x + get_or zone q 0 → x ≤ get_or zone (16 + q) 0 → MissedAt N wanted spans bounds zone x)
-      → Unreached N wanted spans bounds q zone x
-  missed_unreached q x f m legible h row lies at box =
+  pub missed_unreached : (zone : Zone) (q x : ℕ) → q < m
+      → (get_or zone.lowest q 0 ≤ x → x ≤ get_or zone.highest q 0 → MissedAt B m zone x) → Unreached B m q zone x
+  missed_unreached zone q x h f row lies at box =
       let u = lies q h in
-      f (omega (arith, u.0)) (omega (arith, u.1)) (subst (λ (z : ℕ). get_or wanted z 0 ≤ N) at box.0) m legible row lies
-      (subst (λ (z : ℕ). Inside (box_of N wanted spans bounds z) row) at box.1)
+      f (omega (arith, u.0)) (omega (arith, u.1)) box.0 (subst (λ (z : ℕ). span_at B z ≡ Some box.0) at box.1) row lies box.2
 
--- no grade reaches into the zone of a block: no row of the block lies in its box
-pub block_leapt : (N : ℕ) (wanted spans bounds : List ℕ) (q : ℕ) (child : List ℕ) (d : ℕ) → 64 * (d / 64) ≡ d
-    → ((x : ℕ) → x ≤ N → Unreached N wanted spans bounds q (zone_in child (d / 64)) x) → Leapt N wanted spans bounds q child d 64
-block_leapt N wanted spans bounds q child d g f m n legible hq zoned e l h k le =
-    let b : e / 64 ≡ d / 64 = omega arith in
-    f (get_or (row_in child e) q 0) le m legible hq (row_in child e) (subst (λ (z : ℕ). Lies (zone_in child z) m (row_in child e)) b (zoned e k)) refl
+  -- no grade reaches into the zone of a block: no row of the block lies in its box
+  pub block_leapt : (N q : ℕ) (child : List (List ℕ)) (zones : List Zone) (d : ℕ) → 64 * (d / 64) ≡ d
+      → ((e : ℕ) → e < length child → Lies (zone_in zones (e / 64)) m (row_in child e)) → ((e : ℕ) → e < length child → cell child e q ≤ N)
+      → ((x : ℕ) → x ≤ N → Unreached B m q (zone_in zones (d / 64)) x) → Leapt B q child d 64
+  block_leapt N q child zones d g zoned le f e l h k =
+      let b : e / 64 ≡ d / 64 = omega arith in
+      f (cell child e q) (le e k) (row_in child e) (subst (λ (z : ℕ). Lies (zone_in zones z) m (row_in child e)) b (zoned e k)) refl
 
 -- the rows in their boxes are the witnesses', and so the next hit is the next witness
-module _ (T : Tables) (R : Ready T) (c q : ℕ) (hq : q < slot_count T.slots) (wanted spans bounds : List ℕ) (k : ℕ)
-    (b : Boxes T.logic T.slots T.own c q wanted spans bounds (T.logic.steps + 1) k) (long : 3 * k ≤ length bounds) where
+module _ (T : Tables) (R : Ready T) (c q : ℕ) (hq : q < slot_count T.slots) (B : Boxes) (M : Boxed B T c q (T.logic.steps + 1)) (long : B.count ≤ length B.bounds) where
   abbrev N : ℕ
   N = T.logic.steps
 
   abbrev m : ℕ
   m = slot_count T.slots
 
-  -- the box of the grade x
-  box-at : (x : ℕ) → x ≤ N → get_or wanted x 0 ≤ N → BoxOf T.logic m (AllowsRow T.logic T.slots T.own c q (get_or wanted x 0)) (box_of N wanted spans bounds x)
-  box-at x h l = let u = b x (omega arith) in box-part T.logic m _ bounds _ bounds _ (u.box l) (omega (arith, u.few l))
+  -- the box of the grade x, and the level that it is for
+  box-at : (x : ℕ) (s : Span) → x ≤ N → span_at B x ≡ Some s → (v : ℕ) × (v ≤ N) × WantsAt T c q x v × BoxAt B T c q v s
+  box-at x s h e = of (M x (omega arith))
+    where
+      of : BoxFor B T c q x (span_at B x) → (v : ℕ) × (v ≤ N) × WantsAt T c q x v × BoxAt B T c q v s
+      of u =
+          dite (dec_lt N u.level)
+          (λ k. let n : Some s ≡ None = sym e ∙ u.none k in absurd (cc))
+          (λ k.
+          let o = u.some (omega arith) in
+          let i : o.0 ≡ s = cc in
+          (u.level, omega arith, u.wants, subst (BoxAt B T c q u.level) i o.2))
 
-  pub boxes_legible : Legible N wanted spans bounds m
-  boxes_legible x h l = let u = b x (omega arith) in ((u.box l).more, omega (arith, u.few l), (box-at x h l).columns)
+  part-box : (v : ℕ) (s : Span) → BoxAt B T c q v s → BoxOf T.logic m (AllowsRow T c q v) (box_of B s)
+  part-box v s b = box-part T.logic m _ B.bounds _ B.bounds _ b.box (omega (arith, b.few))
 
-  at : (d j : ℕ) → j < m → get_or (row_in T.child d) j 0 ≡ cell T.child d j
-  at d j l = row_at T.child d j (omega (arith, R.few))
+  pub boxes_legible : Legible B N m
+  boxes_legible x s h e =
+      let u = box-at x s h e in
+      (u.3.box.more, omega (arith, u.3.few), (part-box u.0 s u.3).columns)
 
-  on_chain : (d : ℕ) → d < T.targets → OnChain T.logic m (row_in T.child d)
-  on_chain d h j l = rw (at d j l) (R.child_le d j h l)
+  on_chain : (d : ℕ) → d < length T.child → OnChain T.logic m (row_in T.child d)
+  on_chain d h j l = R.child_le d j h l
 
-  in_box_witness : (d : ℕ) → d < T.targets → InBox N wanted spans bounds q (row_in T.child d) ↔ Witness T c q d
-  in_box_witness d h =
-      let x = cell T.child d q in
-      let v = get_or wanted x 0 in
-      let hx = R.child_le d q h hq in
-      let u = b x (omega arith) in
-      rw (at d q hq) (
-        λ i. (v, i.0, (u.wants v i.0).0 (le_refl _), λ j l. rw (← at d j l) (((box-at x hx i.0).exact (row_in T.child d) (on_chain d h)).0 i.1 j l)),
-        λ w.
-            let g = (u.wants w.0 w.1).1 w.2 in
-            let n = le_trans g w.1 in (
-              n,
-              ((box-at x hx n).exact (row_in T.child d) (on_chain d h)).1 (λ j l. rw (at d j l) (λ e.
-                  within_trans (slot_quantifier T.slots j) _ _ _
-                  (through_mono T.logic.steps (connectives_of T.logic) (logic-lawful T.logic) (slot_quantifier T.slots j) v w.0
-                  (cell T.child d j) g w.1 (R.child_le d j h l)) (w.3 j l e))),
-            ),
-      )
+  in_box_witness : (d : ℕ) → d < length T.child → InBox B q (row_in T.child d) ↔ Witness T c q d
+  in_box_witness d h = (
+    λ i.
+        let u = box-at x i.0 hx i.1 in
+        (u.0, u.1, (u.2 u.0 u.1).0 (le_refl _), ((part-box u.0 i.0 u.3).exact (row_in T.child d) (on_chain d h)).0 i.2),
+    λ w. reached w (M x (omega arith)),
+  )
+    where
+      x : ℕ
+      x = cell T.child d q
 
-  pub next_witness : (marks : List ℕ) → length marks ≡ T.targets → (start r : ℕ) → NextHit N wanted spans bounds q T.child marks start r
-      → NextWitness T marks c q start r
-  next_witness marks size start r f = record {
-    passed = λ d l s o w. f.passed d l s (o, (in_box_witness d (omega (arith, marked_lt marks d o))).1 w);
-    found = λ h. let u = f.found (omega arith) in (u.0, (in_box_witness r h).0 u.1);
-  }
+      hx : x ≤ N
+      hx = R.child_le d q h hq
+
+      reached : Witness T c q d → BoxFor B T c q x (span_at B x) → InBox B q (row_in T.child d)
+      reached w u =
+          let g = (u.wants w.0 w.1).1 w.2 in
+          let n = le_trans g w.1 in
+          let o = u.some n in (
+            o.0,
+            o.1,
+            ((part-box u.level o.0 o.2).exact (row_in T.child d) (on_chain d h)).1 (λ j l e.
+                within_trans (slot_quantifier T.slots j) _ _ _
+                (through_mono T.logic.steps (connectives_of T.logic) (logic-lawful T.logic) (slot_quantifier T.slots j) u.level w.0
+                (cell T.child d j) g w.1 (R.child_le d j h l)) (w.3 j l e)),
+          )
+
+  pub next_witness : (marks : List ℕ) → length marks ≡ length T.child → (start : ℕ) (o : Option ℕ) → NextHit B q T.child marks start o
+      → NextWitness T marks c q start o
+  next_witness marks size start None f = λ d l o w. f d l (o, (in_box_witness d (omega (arith, marked_lt marks d o))).1 w)
+  next_witness marks size start (Some r) f = (
+    f.0.0,
+    (in_box_witness r (omega (arith, marked_lt marks r f.0.0))).0 f.0.1,
+    λ d l k o w.
+        f.1 d l k (o, (in_box_witness d (omega (arith, marked_lt marks d o))).1 w),
+  )
 
 -- ---- the memory
 
 -- slot q of c, where w is remembered of it
-module _ (T : Tables) (marks memory : List ℕ) (M : Remembers T marks memory) (c q : ℕ) (hc : c < T.sources) (hq : q < slot_count T.slots) where
+module _ (T : Tables) (marks : List ℕ) (memory : List (List ℕ)) (M : Remembers T marks memory) (c q : ℕ) (hc : c < length T.own) (hq : q < slot_count T.slots) where
   -- what is remembered is a target, or nothing
-  pub remembered_le : cell memory c q ≤ T.targets
+  pub remembered_le : cell memory c q ≤ length T.child
   remembered_le = (M c q hc hq).within
 
   -- a witness that is still marked
   pub still_backed : (0 < cell memory c q) × Marked marks (cell memory c q - 1) → Backed T marks c q
   still_backed h = (cell memory c q - 1, h.1, (M c q hc hq).known h.0)
 
-  -- none is, and a search from there on came to r
-  module _ (gone : ¬ ((0 < cell memory c q) × Marked marks (cell memory c q - 1))) (r : ℕ) (f : NextWitness T marks c q (cell memory c q) r) where
-    none_before : (d : ℕ) → d < r → Marked marks d → ¬ Witness T c q d
-    none_before d l o w =
+  -- none is, and a search from there on
+  module _ (gone : ¬ ((0 < cell memory c q) × Marked marks (cell memory c q - 1))) where
+    none_before : (d : ℕ) → (cell memory c q ≤ d → Marked marks d → ¬ Witness T c q d) → Marked marks d → ¬ Witness T c q d
+    none_before d f o w =
         dite (dec_lt (d + 1) (cell memory c q)) (λ k. (M c q hc hq).passed d k o w)
         (λ k. dite (dec_lt d (cell memory c q))
         (λ g. let e : d ≡ cell memory c q - 1 = omega arith in gone (omega arith, subst (Marked marks) e o))
-        (λ g. f.passed d l (omega arith) o w))
+        (λ g. f (omega arith) o w))
 
-    pub none_backed : length marks ≡ T.targets → T.targets ≤ r → ¬ Backed T marks c q
-    none_backed size h b = none_before b.0 (omega (arith, marked_lt marks b.0 b.1)) b.1 b.2
+    -- found none
+    pub none_backed : NextWitness T marks c q (cell memory c q) None → ¬ Backed T marks c q
+    none_backed f b = none_before b.0 (f b.0) b.1 b.2
 
-    module _ (h : r < T.targets) where
+    -- or found r
+    module _ (r : ℕ) (f : NextWitness T marks c q (cell memory c q) (Some r)) where
       pub found_backed : Backed T marks c q
-      found_backed = let u = f.found h in (r, u.0, u.1)
+      found_backed = (r, f.0, f.1)
 
-      found_remembered : Remembered T marks c q (r + 1)
-      found_remembered = record {
-        within = omega arith;
-        known = λ _. let e : r ≡ r + 1 - 1 = omega arith in subst (Witness T c q) e (f.found h).1;
-        passed = λ d l. none_before d (omega arith);
+      found_remembered : length marks ≡ length T.child → Remembered T marks c q (r + 1)
+      found_remembered size = record {
+        within = omega (arith, marked_lt marks r f.0);
+        known = λ _. let e : r ≡ r + 1 - 1 = omega arith in subst (Witness T c q) e f.1;
+        passed = λ d l. none_before d (λ k. f.2 d k (omega arith));
       }
 
-      pub found-remembers : slot_count T.slots ≤ 16 → 16 * T.sources ≤ length memory → Remembers T marks (set memory (16 * c + q) (r + 1))
-      found-remembers few room e p he hp =
-          dite (ℕ_discrete (16 * e + p) (16 * c + q))
-          (λ i. same e p (omega arith) (omega arith)
-          (ap (λ (z : ℕ). get_or (set memory (16 * c + q) (r + 1)) z 0) i ∙ get_or-set_same memory (16 * c + q) (r + 1) 0 (omega arith)))
-          (λ n. subst (Remembered T marks e p) (sym (get_or-set_other memory (16 * c + q) (16 * e + p) (r + 1) 0 n)) (M e p he hp))
-        where
-          same : (x y : ℕ) → x ≡ c → y ≡ q → cell (set memory (16 * c + q) (r + 1)) x y ≡ r + 1
-              → Remembered T marks x y (cell (set memory (16 * c + q) (r + 1)) x y)
-          same x y ex ey i = subst (Remembered T marks x y) (sym i) (rw (ex, ey) found_remembered)
+      pub found-remembers : length marks ≡ length T.child → c < length memory → q < length (row_in memory c) → Remembers T marks (put_cell memory c q (r + 1))
+      found-remembers size room wide e p he hp =
+          dite (dec_and (ℕ_discrete e c) (ℕ_discrete p q))
+          (λ i. rw (i.0, i.1, cell-put_same memory c q (r + 1) room wide) (found_remembered size))
+          (λ n. rw (cell-put_other memory c q (r + 1) room e p n) (M e p he hp))

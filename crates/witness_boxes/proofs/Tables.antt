@@ -17,7 +17,8 @@ use Rattle.slots.specs.Slots.{slot_count, slot_role, slot_child, slot_term, slot
 use Rattle.slots.proofs.Slots.{slots_allow}
 use Rattle.elimination.specs.Survivors.{Witnesses}
 use Rattle.elimination.proofs.Witnesses.{witnesses_through}
-use Rattle.witness_boxes.specs.Tables.{cell, Tables, RowOf}
+use Rattle.zones.specs.Rows.{cell}
+use Rattle.witness_boxes.specs.Tables.{Tables, RowOf}
 use Rattle.witness_boxes.specs.Search.{AllowsAt, Witness}
 
 -- source a has the row of candidate c, target b that of candidate d
@@ -30,7 +31,7 @@ module _ (ts : List Term) (o : Ordered ts) (T : Tables) (S : SlotsOf ts T.slots)
   kind = slot_quantifier T.slots
 
   -- the terms allow by the candidates' grades what the slots allow by the tables
-  allowed : (s : ℕ) → ((j : ℕ) → j < slot_count T.slots → AllowsAt T.logic T.slots T.own a q s j (cell T.child b j))
+  allowed : (s : ℕ) → ((j : ℕ) → j < slot_count T.slots → AllowsAt T a q s j (cell T.child b j))
       ↔ Allows Γ (slot_role T.slots q) (grade_in Γ c) (grade_in Γ d) s
   allowed s =
       let u = slots_allow Γ T.slots S (slot_role T.slots q) (grade_in Γ c) (grade_in Γ d) s in (

@@ -2,154 +2,127 @@
 
 #![tactic(auto)]
 
-ghost use Rattle.std.specs.Prelude.{◌≡◌, ℕ, ◌+◌, ◌*◌, ◌-◌, ◌<◌, ◌≤◌, length, get_or, set};
+ghost use Rattle.std.specs.Prelude.{◌≡◌, ℕ, ◌+◌, ◌*◌, ◌-◌, ◌<◌, ◌≤◌, length, get_or};
 ghost use Rattle.boxes.specs.Boxes.{Asks, Narrowed};
-ghost use Rattle.slots.specs.Slots.{slot_count, slot_kind};
-ghost use Rattle.witness_boxes.specs.Tables.{cell};
-ghost use Rattle.witness_boxes.specs.Search.{AllowsAt, AllowsRow, Boxes};
+ghost use Rattle.slots.specs.Slots.{slot_count};
+ghost use Rattle.witness_boxes.specs.Lent.{tables_of};
+ghost use Rattle.witness_boxes.specs.Search.{AllowsAt, AllowsRow, Boxed};
 
 use boxes::{Bound, put_bound};
-use gradings::{Logic, bound, governs, wants};
+use sections::{Quantifier, quantifier_of};
 
-// What slot `j` asks of the row of a target for a link of this level for the role of slot `q`: no link is worked out, only how far its child's
-// grade may go.
-fn bound_of(
-    logic: Logic,
-    slots: &[u8],
-    own: &[u8],
-    c: usize,
-    q: usize,
-    j: usize,
-    level: u8,
-) -> Bound
-    requires q_bound { (q < slot_count slots.now) × (j < slot_count slots.now) × (slot_count slots.now ≤ 16) × (c < 16384) × (16 * c + 16 ≤ length own.now) }
-    requires level_le_steps { (level ≤ logic.steps) × (4 ≤ slot_kind slots.now j) × (slot_kind slots.now j ≤ 5) × (cell own.now c j ≤ logic.steps) }
-    ensures { Asks logic (slot_count slots.now) (λ row. AllowsAt logic slots.now own.now c q level j (get_or row j 0)) result }
-{
-    let column = j as u8;
-    if !governs(logic, slots[4 * j + 1], slots[4 * q + 1]) {
-        return Bound {
-            column: column,
-            low: 0,
-            high: logic.steps,
-        };
-    }
-    let kind = slots[4 * j];
-    let edge = bound(logic, kind, level, own[16 * c + j]);
-    if kind == 4 {
-        return Bound {
-            column: column,
-            low: 0,
-            high: edge,
-        };
-    }
-    Bound {
-        column: column,
-        low: edge,
-        high: logic.steps,
-    }
+mod lent;
+
+pub use lent::WitnessTables;
+
+// The box of a level: from bound `begin` up to bound `end`.
+#[derive(Clone, Copy, PartialEq, Eq)]
+pub struct Span {
+    pub level: u8,
+    pub begin: u16,
+    pub end: u16,
 }
 
-// Adds the box of a level for slot `q` of source `c` behind the first `start` bounds: the later slots first, as they change least from target to
-// target. The number of bounds.
-fn make_box(
-    logic: Logic,
-    slots: &[u8],
-    own: &[u8],
-    c: usize,
-    q: usize,
-    level: u8,
-    bounds: &mut [u8],
-    start: usize,
-) -> usize
-    requires q_bound { (q < slot_count slots.now) × (slot_count slots.now ≤ 16) × (c < 16384) × (16 * c + 16 ≤ length own.now) }
-    requires level_le_steps { (level ≤ logic.steps) × (3 * start + 48 ≤ length bounds.old) }
-    requires by_index { (j : ℕ) → j < slot_count slots.now → (4 ≤ slot_kind slots.now j) × (slot_kind slots.now j ≤ 5) × (cell own.now c j ≤ logic.steps) }
-    ensures narrowed { Narrowed logic (slot_count slots.now) (AllowsRow logic slots.now own.now c q level) bounds.old start bounds.new result }
-    ensures upper_bound { result ≤ start + 16 }
-{
-    let count = slots.len() / 4;
-    let mut m = start;
-    let mut j = count;
-    while 0 < j {
-        j -= 1;
-        let b = bound_of(logic, slots, own, c, q, j, level);
-        m = put_bound(logic, count, b, bounds, m);
-    }
-    m
+// For each grade that the slot's own child may have the box of the level that is wanted then, where this is on the chain; and the bounds of all
+// boxes, so many.
+#[derive(Drop)]
+pub struct Boxes {
+    pub spans: [Option<Span>; 17],
+    pub bounds: [Bound; 272],
+    pub count: usize,
 }
 
-// Notes where the box for grade `x` begins and ends.
-fn put_span(spans: &mut [u16], x: usize, a: u16, b: u16)
-    requires { (x < 17) × (34 ≤ length spans.old) }
-    ensures { spans.new ≡ set (set spans.old (2 * x) a) (2 * x + 1) b }
-{
-    spans[2 * x] = a;
-    spans[2 * x + 1] = b;
-}
-
-// Notes the level that slot `q` of source `c` wants where its own child has grade `x`, and its box; this is made unless the grade before wants the
-// same or none on the chain is enough. The number of bounds.
-fn make_box_for(
-    logic: Logic,
-    slots: &[u8],
-    own: &[u8],
-    c: usize,
-    q: usize,
-    x: u8,
-    wanted: &mut [u8],
-    spans: &mut [u16],
-    bounds: &mut [u8],
-    k: usize,
-) -> usize
-    requires q_bound { (q < slot_count slots.now) × (slot_count slots.now ≤ 16) × (c < 16384) × (16 * c + 16 ≤ length own.now) }
-    requires steps_bound { (logic.steps ≤ 16) × (x ≤ logic.steps) × (17 ≤ length wanted.old) × (34 ≤ length spans.old) × (816 ≤ length bounds.old) × (k ≤ 16 * x) }
-    requires by_index { (j : ℕ) → j < slot_count slots.now → (4 ≤ slot_kind slots.now j) × (slot_kind slots.now j ≤ 5) × (cell own.now c j ≤ logic.steps) }
-    requires boxes { Boxes logic slots.now own.now c q wanted.old spans.old bounds.old x k }
-    ensures boxes_2 { Boxes logic slots.now own.now c q wanted.new spans.new bounds.new (x + 1) result }
-    ensures upper_bound { result ≤ k + 16 }
-{
-    let level = wants(logic, slots[4 * q], own[16 * c + q], x);
-    let at = x as usize;
-    wanted[at] = level;
-    if logic.steps < level {
-        return k;
-    }
-    if 0 < at {
-        if wanted[at - 1] == level {
-            let a = spans[2 * (at - 1)];
-            let b = spans[2 * (at - 1) + 1];
-            put_span(spans, at, a, b);
-            return k;
+impl Boxes {
+    // No box is made yet.
+    pub fn new() -> Self
+        ensures { result.count ≡ 0 }
+    {
+        Boxes {
+            spans: [None; 17],
+            bounds: [Bound::UNUSED; 272],
+            count: 0,
         }
     }
-    let r = make_box(logic, slots, own, c, q, level, bounds, k);
-    put_span(spans, at, k as u16, r as u16);
-    r
 }
 
-// Does so for every grade. The number of bounds.
-pub fn make_boxes(
-    logic: Logic,
-    slots: &[u8],
-    own: &[u8],
-    c: usize,
-    q: usize,
-    wanted: &mut [u8],
-    spans: &mut [u16],
-    bounds: &mut [u8],
-) -> usize
-    requires q_bound { (q < slot_count slots.now) × (slot_count slots.now ≤ 16) × (c < 16384) × (16 * c + 16 ≤ length own.now) }
-    requires steps_bound { (logic.steps ≤ 16) × (17 ≤ length wanted.old) × (34 ≤ length spans.old) × (816 ≤ length bounds.old) }
-    requires by_index { (j : ℕ) → j < slot_count slots.now → (4 ≤ slot_kind slots.now j) × (slot_kind slots.now j ≤ 5) × (cell own.now c j ≤ logic.steps) }
-    ensures { Boxes logic slots.now own.now c q wanted.new spans.new bounds.new (logic.steps + 1) result × (result ≤ 272) }
+// What slot `j` asks of the row of a target for a link of this level for the role of slot `q` of source `c`: no link is worked out, only how far
+// its child's grade may go.
+fn bound_of(t: &WitnessTables, c: usize, q: usize, j: usize, level: u8) -> Bound
+    requires { (c < length t.now.own.now) × (q < slot_count t.now.slots.now) × (j < slot_count t.now.slots.now) × (level ≤ t.now.logic.steps) }
+    ensures { Asks t.now.logic (slot_count t.now.slots.now) (λ row. AllowsAt (tables_of t.now) c q level j (get_or row j 0)) result }
 {
-    let steps = logic.steps;
-    let mut k = 0;
-    let mut x = 0;
-    while x <= steps {
-        k = make_box_for(logic, slots, own, c, q, x, wanted, spans, bounds, k);
-        x += 1;
+    let column = j as u8;
+    let all = Bound {
+        column,
+        low: 0,
+        high: t.logic.steps,
+    };
+    if !t.logic.governs(t.slots[4 * j + 1], t.slots[4 * q + 1]) {
+        return all;
     }
-    k
+    let quantifier = quantifier_of(t.slots[4 * j]);
+    let edge = t.logic.bound(quantifier, level, t.own[c][j]);
+    match quantifier {
+        Quantifier::Existential => Bound { high: edge, ..all },
+        Quantifier::Universal => Bound { low: edge, ..all },
+    }
+}
+
+// Adds the box of a level for slot `q` of source `c`: the later slots first, as they change least from target to target.
+fn add_box(t: &WitnessTables, c: usize, q: usize, level: u8, boxes: &mut Boxes) -> Span
+    requires slot { (c < length t.now.own.now) × (q < slot_count t.now.slots.now) }
+    requires room { (level ≤ t.now.logic.steps) × (boxes.old.count + 16 ≤ 272) }
+    ensures narrowed { Narrowed t.now.logic (slot_count t.now.slots.now) (AllowsRow (tables_of t.now) c q level)
+        boxes.old.bounds boxes.old.count boxes.new.bounds boxes.new.count }
+    ensures span { (result.level ≡ level) × (result.begin ≡ boxes.old.count) × (result.end ≡ boxes.new.count) }
+    ensures upper_bound { boxes.new.count ≤ boxes.old.count + 16 }
+    ensures spans { (boxes.new.spans ≡ boxes.old.spans) × (length boxes.new.bounds ≡ length boxes.old.bounds) }
+{
+    let count = t.slots.len() / 4;
+    let begin = boxes.count;
+    for j in (0..count).rev() {
+        let b = bound_of(t, c, q, j, level);
+        let m = boxes.count;
+        boxes.count = put_bound(t.logic, count, b, &mut boxes.bounds, m);
+    }
+    Span {
+        level,
+        begin: begin as u16,
+        end: boxes.count as u16,
+    }
+}
+
+// Notes the box for a child of grade `x`, for slot `q` of source `c`: that of the grade before where it wants the same level, else a new one, and
+// none where no level on the chain is enough.
+fn put_box(t: &WitnessTables, c: usize, q: usize, x: u8, boxes: &mut Boxes)
+    requires slot { (c < length t.now.own.now) × (q < slot_count t.now.slots.now) × (x ≤ t.now.logic.steps) }
+    requires boxed { Boxed boxes.old (tables_of t.now) c q x × (boxes.old.count ≤ 16 * x) }
+    ensures { Boxed boxes.new (tables_of t.now) c q (x + 1) × (boxes.new.count ≤ 16 * (x + 1)) × (length boxes.new.bounds ≡ length boxes.old.bounds) }
+{
+    let at = usize::from(x);
+    let level = t.logic.wants(quantifier_of(t.slots[4 * q]), t.own[c][q], x);
+    if t.logic.steps < level {
+        boxes.spans[at] = None;
+        return;
+    }
+    if 0 < at
+        && let Some(span) = boxes.spans[at - 1]
+        && span.level == level
+    {
+        boxes.spans[at] = Some(span);
+        return;
+    }
+    let span = add_box(t, c, q, level, boxes);
+    boxes.spans[at] = Some(span);
+}
+
+// Makes the boxes of all grades for slot `q` of source `c`.
+pub fn make_boxes(t: &WitnessTables, c: usize, q: usize, boxes: &mut Boxes)
+    requires { (c < length t.now.own.now) × (q < slot_count t.now.slots.now) }
+    ensures { Boxed boxes.new (tables_of t.now) c q (t.now.logic.steps + 1) × (boxes.new.count ≤ length boxes.new.bounds) }
+{
+    boxes.count = 0;
+    for x in 0..=t.logic.steps {
+        put_box(t, c, q, x, boxes);
+    }
 }

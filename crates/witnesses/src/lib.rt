@@ -2,47 +2,30 @@
 
 #![tactic(auto)]
 
-ghost use Rattle.std.specs.Prelude.{true, false, ◌+◌, ◌*◌, ◌-◌, ◌<◌, ◌≤◌, length};
+ghost use Rattle.std.specs.Prelude.{◌≡◌, ℕ, ◌-◌, ◌<◌, ◌≤◌, length};
 ghost use Rattle.chain.specs.Decisions.{Tells};
 ghost use Rattle.slots.specs.Slots.{slot_count};
 ghost use Rattle.elimination.specs.Marks.{Marked};
-ghost use Rattle.witness_boxes.specs.Tables.{tables, Ready};
+ghost use Rattle.witness_boxes.specs.Lent.{tables_of};
 ghost use Rattle.witness_boxes.specs.Search.{NextWitness, Remembers, Backed, Supported};
 
-use gradings::Logic;
-use witness_boxes::make_boxes;
-use witness_search::next_hit;
+use witness_boxes::{Boxes, WitnessTables, make_boxes};
+use witness_search::Search;
 
-// The first marked witness of slot `q` of source `c` from `start` on, or a number past the last target.
-fn next_witness(
-    logic: Logic,
-    slots: &[u8],
-    own: &[u8],
-    child: &[u8],
-    marks: &[u8],
-    sources: usize,
-    c: usize,
-    q: usize,
-    start: usize,
-) -> usize
-    requires ready { Ready (tables logic sources (length marks.now) slots.now own.now child.now) }
-    requires marks_len_bound { (length marks.now ≤ 16384) × (c < sources) × (q < slot_count slots.now) × (sources ≤ 16384) }
-    ensures { NextWitness (tables logic sources (length marks.now) slots.now own.now child.now) marks.now c q start result }
+// The first marked witness of slot `q` of source `c` from `start` on.
+fn next_witness(t: &WitnessTables, marks: &[u8], c: usize, q: usize, start: usize) -> Option<usize>
+    requires { (length marks.now ≡ length t.now.child.now) × (c < length t.now.own.now) × (q < slot_count t.now.slots.now) }
+    ensures { NextWitness (tables_of t.now) marks.now c q start result }
 {
-    let mut wanted = [0u8; 17];
-    let mut spans = [0u16; 34];
-    let mut bounds = [0u8; 816];
-    make_boxes(
-        logic,
-        slots,
-        own,
-        c,
-        q,
-        &mut wanted,
-        &mut spans,
-        &mut bounds,
-    );
-    next_hit(logic, &wanted, &spans, &bounds, q, child, marks, start)
+    let mut boxes = Boxes::new();
+    make_boxes(t, c, q, &mut boxes);
+    let search = Search {
+        tables: t,
+        marks,
+        slot: q,
+        boxes: &boxes,
+    };
+    search.next_hit(start)
 }
 
 // Is a witness known, `known` one more than it, and still marked?
@@ -50,67 +33,41 @@ fn still_marked(marks: &[u8], known: usize) -> bool
     requires { known ≤ length marks.now }
     ensures { Tells result ((0 < known) × Marked marks.now (known - 1)) }
 {
-    if known == 0 {
-        return false;
-    }
-    marks[known - 1] == 1
+    0 < known && marks[known - 1] == 1
 }
 
 // Has slot `q` of source `c` a marked witness? A remembered one that is still marked is not sought again; else the search goes on from there.
-fn backed(
-    logic: Logic,
-    slots: &[u8],
-    own: &[u8],
-    child: &[u8],
-    marks: &[u8],
-    memory: &mut [u16],
-    sources: usize,
-    c: usize,
-    q: usize,
-) -> bool
-    requires ready { Ready (tables logic sources (length marks.now) slots.now own.now child.now) }
-    requires marks_len_bound { (length marks.now ≤ 16384) × (c < sources) × (q < slot_count slots.now) × (16 * sources ≤ length memory.old) × (sources ≤ 16384) }
-    requires remembers { Remembers (tables logic sources (length marks.now) slots.now own.now child.now) marks.now memory.old }
-    ensures tells { Tells result (Backed (tables logic sources (length marks.now) slots.now own.now child.now) marks.now c q) }
-    ensures remembers_2 { Remembers (tables logic sources (length marks.now) slots.now own.now child.now) marks.now memory.new }
+// The memory has one more than the witness, or 0: an Option would take twice the room.
+fn backed(t: &WitnessTables, marks: &[u8], memory: &mut [[u16; 16]], c: usize, q: usize) -> bool
+    requires in_bounds { (length marks.now ≡ length t.now.child.now) × (c < length t.now.own.now) × (q < slot_count t.now.slots.now) × (length t.now.own.now ≤ length memory.old) }
+    requires remembers { Remembers (tables_of t.now) marks.now memory.old }
+    ensures tells { Tells result (Backed (tables_of t.now) marks.now c q) }
+    ensures remembers_2 { Remembers (tables_of t.now) marks.now memory.new }
 {
-    let at = 16 * c + q;
-    let known = memory[at] as usize;
+    let known = usize::from(memory[c][q]);
     if still_marked(marks, known) {
         return true;
     }
-    let w = next_witness(logic, slots, own, child, marks, sources, c, q, known);
-    if w >= marks.len() {
-        return false;
+    match next_witness(t, marks, c, q, known) {
+        None => false,
+        Some(w) => {
+            memory[c][q] = (w + 1) as u16;
+            true
+        }
     }
-    memory[at] = (w + 1) as u16;
-    true
 }
 
 // Has each slot of source `c` a marked witness? Moves its remembered witnesses forward.
-pub fn supported(
-    logic: Logic,
-    slots: &[u8],
-    own: &[u8],
-    child: &[u8],
-    marks: &[u8],
-    memory: &mut [u16],
-    sources: usize,
-    c: usize,
-) -> bool
-    requires ready { Ready (tables logic sources (length marks.now) slots.now own.now child.now) }
-    requires marks_len_bound { (length marks.now ≤ 16384) × (c < sources) × (16 * sources ≤ length memory.old) × (sources ≤ 16384) }
-    requires remembers { Remembers (tables logic sources (length marks.now) slots.now own.now child.now) marks.now memory.old }
-    ensures tells { Tells result (Supported (tables logic sources (length marks.now) slots.now own.now child.now) marks.now c) }
-    ensures remembers_2 { Remembers (tables logic sources (length marks.now) slots.now own.now child.now) marks.now memory.new }
+pub fn supported(t: &WitnessTables, marks: &[u8], memory: &mut [[u16; 16]], c: usize) -> bool
+    requires in_bounds { (length marks.now ≡ length t.now.child.now) × (c < length t.now.own.now) × (length t.now.own.now ≤ length memory.old) }
+    requires remembers { Remembers (tables_of t.now) marks.now memory.old }
+    ensures tells { Tells result (Supported (tables_of t.now) marks.now c) }
+    ensures remembers_2 { Remembers (tables_of t.now) marks.now memory.new }
 {
-    let count = slots.len() / 4;
-    let mut q = 0;
-    while q < count {
-        if !backed(logic, slots, own, child, marks, memory, sources, c, q) {
+    for q in 0..t.slots.len() / 4 {
+        if !backed(t, marks, memory, c, q) {
             return false;
         }
-        q += 1;
     }
     true
 }

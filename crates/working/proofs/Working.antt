@@ -6,9 +6,8 @@ use mathlib.Core.Logic.Dec
 use mathlib.Core.Logic.Iff
 use mathlib.Core.Logic.{◌⊎◌, inl, inr, ⊎_elim, ◌↔◌}
 use mathlib.Core.List.{List}
-use Prim.Native.Nat.{ℕ, zero, suc, ◌+◌, ◌<◌}
+use Prim.Native.Nat.{ℕ, zero, suc, ◌<◌, ◌≤◌}
 use native.Mathlib.Decide.{dec_le}
-use native.Mathlib.Numerals.{add-one}
 use native.Mathlib.Omega.{arith}
 use lib.ListN.{length, get_or}
 use borrow.Author.Count.{below_none, below_more}
@@ -92,6 +91,11 @@ module _ (v w : Verdict) where
     λ p. else_second p.0 ∙ p.1,
   )
 
+pub or_else_assoc : (u v w : Verdict) → or_else (or_else u v) w ≡ or_else u (or_else v w)
+or_else_assoc u v w =
+    ⊎_elim (λ m. rw (else_second u v m, else_second u (or_else v w) m) refl)
+    (λ b. rw (else_first u v b, else_first u (or_else v w) b, else_first u w b) refl) (met_or_broken u)
+
 -- ---- the first that is broken
 
 module _ (f : ℕ → Verdict) {P : ℕ → Type 0} (meets : (i : ℕ) → (f i ≡ Meets) ↔ P i) where
@@ -125,25 +129,24 @@ module _ {A : Type 0} (f : ℕ → A → Verdict) {P : A → Type 0} (meets : (k
   pub first-each : (first_broken (λ k. f k (get_or xs k d)) (length xs) ≡ Meets) ↔ Each P xs
   first-each = Iff.trans (first_meets (λ k. f k (get_or xs k d)) (λ k. meets k (get_or xs k d)) (length xs)) (Iff.symm (each_at P xs d))
 
--- ---- as a loop meets it: none broken so far, and one more
+-- ---- as a loop meets it: of n verdicts that are f's, those before i are "meets"
 
-module _ (f : ℕ → Verdict) where
-  pub first_start : first_broken f 0 ≡ Meets
-  unfolding first_broken
-  first_start = refl
+module _ (R : ℕ → Verdict → Type 0) (n : ℕ) (f : ℕ → Verdict) (same : (i : ℕ) (v : Verdict) → i < n → R i v → v ≡ f i) where
+  met_before : (i : ℕ) → i ≤ n → ((j : ℕ) → j < i → R j Meets) → first_broken f i ≡ Meets
+  met_before i h met = (first_meets f (λ _. Iff.rfl) i).1 (λ j l. sym (same j Meets (omega arith) (met j l)))
 
-  pub first_more : (i : ℕ) → first_broken f i ≡ Meets → f i ≡ Meets → first_broken f (i + 1) ≡ Meets
-  unfolding first_broken
-  first_more i m e = rw (add-one i) (else_second _ _ m ∙ e)
+  pub first_none : ((j : ℕ) → j < n → R j Meets) → Meets ≡ first_broken f n
+  first_none met = sym (met_before n (omega arith) met)
 
-  pub first-end : (n i : ℕ) → i ≡ n → first_broken f i ≡ Meets → Meets ≡ first_broken f n
-  first-end n i e m = rw (← e) (sym m)
-
-  -- r is what is said of number i
-  pub first_found : (n i : ℕ) (r : Verdict) → i < n → first_broken f i ≡ Meets → r ≡ f i → Broken r → r ≡ first_broken f n
-  first_found n i r h m e b =
-      let fails : Broken (f i) = λ q. b (e ∙ q) in
-      e ∙ sym (first-at f (λ _. Iff.rfl) n i (record { below = h; fails = fails; passed = (first_meets f (λ _. Iff.rfl) i).0 m }))
+  -- v is that of number i
+  pub first_found : (i : ℕ) (v : Verdict) → i < n → ((j : ℕ) → j < i → R j Meets) → R i v → Broken v → v ≡ first_broken f n
+  first_found i v h met is b =
+      let e = same i v h is in
+      e ∙ sym (first-at f (λ _. Iff.rfl) n i (record {
+        below = h;
+        fails = λ q. b (e ∙ q);
+        passed = (first_meets f (λ _. Iff.rfl) i).0 (met_before i (omega arith) met);
+      }))
 
 -- ---- equal verdicts
 

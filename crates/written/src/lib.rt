@@ -15,7 +15,9 @@ ghost use Rattle.decider.specs.Deciding.{placement_in};
 ghost use Rattle.written.specs.Held.{HoldsPlacement};
 ghost use Rattle.written.specs.Writing.{model_bytes, model_questions, written_by, sheet_by};
 
+use grades::Grader;
 use layout::Sections;
+use models::Listed;
 use shapes::Shape;
 
 // The number of the first check that says no, or the sheet's length.
@@ -72,16 +74,14 @@ fn write_marked(
     read_placement(placement, individuals, &mut seats);
     let mut types = [0u16; 64];
     let n = models::list_marked(marks, count, &mut types);
-    models::write_model(
-        layout::terms_in(b, s),
-        book::logic_in(b, s),
-        s.steps,
-        p.names,
-        p.roles,
-        &types[..n],
-        &seats[..individuals],
-        sheet,
-    );
+    let grader = Grader::new(layout::terms_in(b, s), book::logic_in(b, s));
+    let listed = Listed {
+        types: &types[..n],
+        seats: &seats[..individuals],
+        names: p.names,
+        roles: p.roles,
+    };
+    models::write_model(&grader, s.steps, listed, sheet);
 }
 
 // Check 19, and the sheet, of a book with outcome 1 and few survivors.

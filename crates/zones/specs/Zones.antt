@@ -1,25 +1,25 @@
--- Zones of a table of rows, 16 bytes each: for each block of 64 rows the lowest and the highest grade in each column. They stand behind the rows,
--- 32 bytes each: first by how much each lowest grade is below 255, then the highest grades. So a zone of zeros is one of no row.
+-- Zones of a table of rows: for each block of 64 rows the lowest and the highest grade in each column.
 -- Assumes nothing.
-use Rattle.std.specs.Prelude.{◌≡◌, List, ℕ, ◌+◌, ◌*◌, ◌/◌, ◌≤◌, ◌<◌, get_or, take, drop}
+use Rattle.std.specs.Prelude.{List, [], ℕ, ◌/◌, ◌≤◌, ◌<◌, length, get_or}
+use Rattle.zones.specs.Rows.{row_in}
+use Rattle.zones.specs.declared.Zone.{Zone}
 
--- row d, and zone b
-module _ (t : List ℕ) where
-  abbrev pub row_in : (d : ℕ) → List ℕ
-  row_in d = take 16 (drop (16 * d) t)
+abbrev pub no_zone : Zone
+no_zone = record { lowest = []; highest = [] }
 
-  abbrev pub zone_in : (b : ℕ) → List ℕ
-  zone_in b = take 32 (drop (262144 + 32 * b) t)
+-- zone b
+abbrev pub zone_in : List Zone → (b : ℕ) → Zone
+zone_in zones b = get_or zones b no_zone
 
 -- a row lies in the zone, in the columns below m
-abbrev pub Lies : (zone : List ℕ) (m : ℕ) (row : List ℕ) → Type 0
-Lies zone m row = (j : ℕ) → j < m → (255 ≤ get_or row j 0 + get_or zone j 0) × (get_or row j 0 ≤ get_or zone (16 + j) 0)
+abbrev pub Lies : (zone : Zone) (m : ℕ) (row : List ℕ) → Type 0
+Lies zone m row = (j : ℕ) → j < m → (get_or zone.lowest j 0 ≤ get_or row j 0) × (get_or row j 0 ≤ get_or zone.highest j 0)
 
--- each of the first n rows lies in the zone of its block
-abbrev pub Zoned : (t : List ℕ) (m n : ℕ) → Type 0
-Zoned t m n = (d : ℕ) → d < n → Lies (zone_in t (d / 64)) m (row_in t d)
+-- each row lies in the zone of its block
+abbrev pub Zoned : (rows : List (List ℕ)) (zones : List Zone) (m : ℕ) → Type 0
+Zoned rows zones m = (d : ℕ) → d < length rows → Lies (zone_in zones (d / 64)) m (row_in rows d)
 
--- the rows are as they were, and no byte behind them is less
-pub record Wider (old new : List ℕ) : Type 0 where
-  pub kept : (i : ℕ) → i < 262144 → get_or new i 0 ≡ get_or old i 0
-  pub more : (i : ℕ) → get_or old i 0 ≤ get_or new i 0
+-- no lowest grade is higher than it was, and no highest one lower
+pub record Wider (old new : Zone) : Type 0 where
+  pub lower : (j : ℕ) → get_or new.lowest j 0 ≤ get_or old.lowest j 0
+  pub higher : (j : ℕ) → get_or old.highest j 0 ≤ get_or new.highest j 0

@@ -27,14 +27,19 @@ returns-then-count_terms-i c =
 pub terms_in-requires : goal.terms_in-requires
 terms_in-requires c = right-ordered _ _ c.requires.right
 
+pub new-requires : goal.new-requires
+new-requires c =
+    let h = terms_fit _ _ c.requires.right _ c.terms_in.ensures in
+    record { terms_right = h.0; terms_few = omega arith }
+
 pub grade_of-requires : goal.grade_of-requires
 grade_of-requires c =
     let h = terms_fit _ _ c.requires.right _ c.terms_in.ensures in
-    record { terms_right = h.0; terms_bound = (omega arith, omega arith, omega (arith, counted_small _ _ c.requires.b_value)) }
+    record { c_bound = omega (arith, counted_small _ _ c.requires.b_value); i_bound = rw c.new.ensures.terms_are (omega arith) }
 
 pub returns : goal.returns
 returns c =
     let e = counted-candidates _ _ _ c.requires.b_value in
     let l = right-length _ _ c.requires.right in
-    rw (c.grade_of.ensures, c.terms_in.ensures, c.logic_in-logic.ensures.s_value)
+    rw (c.grade_of.ensures, c.new.ensures.logic_is, c.new.ensures.terms_are, c.terms_in.ensures, c.logic_in-logic.ensures.s_value)
     (sym (graded-both _ (candidate_questions c.args.b.now) 20 21 _ _ e.0 (omega arith) (omega arith)))

@@ -27,14 +27,18 @@ returns-then-role-ge8 c =
 pub terms_in-requires : goal.terms_in-requires
 terms_in-requires c = right-ordered _ _ c.requires.right
 
+pub new-grader-requires : goal.new-grader-requires
+new-grader-requires c =
+    let h = terms_fit _ _ c.requires.right _ c.terms_in.ensures in
+    record { terms_right = h.0; terms_few = omega arith }
+
 pub link_of-requires : goal.link_of-requires
 link_of-requires c =
-    let h = terms_fit _ _ c.requires.right _ c.terms_in.ensures in
     let few = counted_small _ _ c.requires.b_value in
-    record { terms_right = h.0; terms_bound = (omega arith, omega arith, omega arith) }
+    (omega arith, omega arith)
 
 pub returns : goal.returns
 returns c =
     let e = counted-candidates _ _ _ c.requires.b_value in
-    rw (c.link_of.ensures, c.terms_in.ensures, c.logic_in-logic.ensures.s_value)
+    rw (c.link_of.ensures, c.new-grader.ensures.logic_is, c.new-grader.ensures.terms_are, c.terms_in.ensures, c.logic_in-logic.ensures.s_value)
     (sym (graded-both _ (candidate_questions c.args.b.now) 20 21 _ _ e.0 (omega arith, omega arith) (omega arith)))

@@ -1,7 +1,6 @@
 -- `checker::work_in` meets its contract.
 -- Assumes nothing.
 use lib.ListN.{length}
-use borrow.Author.Rules.{rules}
 use Rattle.checker.proofs.Working.{work_sheet, refused, sheet-fits, sheet-asked}
 use Rattle.checker.proofs.work_in.Goals as goal
 

@@ -1,8 +1,7 @@
 -- `checker::work_out` meets its contract. The book is opened once; a refusal is passed on and leaves the grid.
 -- Assumes nothing.
-use mathlib.Core.Path.{sym, ◌∙◌}
+use mathlib.Core.Path.{sym}
 use lib.ListN.{length}
-use borrow.Author.Rules.{rules}
 use Rattle.chain.proofs.Answers.{numbered-and, numbered}
 use Rattle.book.proofs.Opening.{opened_accepted}
 use Rattle.checker.specs.Working.{worked_number}

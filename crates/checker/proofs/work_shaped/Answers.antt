@@ -3,8 +3,6 @@
 use mathlib.Core.Path.{sym}
 use native.Mathlib.Omega.{arith}
 use lib.ListN.{length}
-use borrow.Author.Rules.{rules}
-use Rattle.chain.proofs.Lists.{zeros-long}
 use Rattle.book.proofs.Opening.{right-ordered}
 use Rattle.checker.proofs.Working.{work_16, work_none, worked_says, refused, grid_worked, size_is, size_few}
 use Rattle.book.specs.Reading.{book_of}
@@ -28,7 +26,7 @@ returns-then-grid-p c =
 pub work_fitting-requires : goal.work_fitting-requires
 work_fitting-requires c =
     let size = size_is _ _ _ c.requires.right _ c.requires.sheet_fits _ c.count_terms.ensures in
-    record { right = c.requires.right; sheet_fits = c.requires.sheet_fits; in_bounds = (zeros-long 4096, omega arith) }
+    record { right = c.requires.right; sheet_fits = c.requires.sheet_fits; in_bounds = omega arith }
 
 pub returns : goal.returns
 returns c =

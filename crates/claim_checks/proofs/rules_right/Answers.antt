@@ -1,21 +1,11 @@
--- `claim_checks::rules_right` meets its contract. The loop has passed the rules below `i`; each call tells of one more.
+-- `claim_checks::rules_right` meets its contract.
 -- Assumes nothing.
-use Prim.Native.Nat.{ℕ, ◌≤◌, ◌<◌, ◌-◌}
-use native.Mathlib.Omega.{arith}
-use borrow.Author.Count.{below_none, below_more}
 use borrow.Author.Rules.{rules}
-use Rattle.chain.proofs.Decisions.{tells_yes, tells_no, told_yes, told_no}
-use Rattle.claims.specs.Rules.{rule_count, RuleRight}
+use Rattle.chain.proofs.Ranges.{all-tells}
+use Rattle.claims.specs.Rules.{RuleRight}
 use Rattle.claim_checks.proofs.rules_right.Goals as goal
 
-pub loop-i-init : goal.loop-i-init
-loop-i-init c = (omega arith, below_none _)
-
-pub returns-then-not-rule_right : goal.returns-then-not-rule_right
-returns-then-not-rule_right c = tells_no (λ h. told_no _ c.rule_right.ensures c.if-not-rule_right.true (h c.loop-i.i (omega arith)))
-
-pub loop-i-preserved : goal.loop-i-preserved
-loop-i-preserved c = (omega arith, below_more _ c.loop-i.i c.loop-i.invariant.1 (told_yes _ c.rule_right.ensures c.if-not-rule_right.false))
-
 pub returns : goal.returns
-returns c = tells_yes (λ j l. c.loop-i.invariant.1 j (omega arith))
+returns c =
+    all-tells (RuleRight c.args.s.now c.args.n) _ _ _ _ c.all.ensures.ran
+    (λ i f k. search rules) (λ i f k. search rules)

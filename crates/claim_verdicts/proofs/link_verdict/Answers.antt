@@ -1,14 +1,9 @@
 -- `claim_verdicts::link_verdict` meets its contract.
 -- Assumes nothing.
 use mathlib.Core.Path.{sym}
-use borrow.Author.Rules.{rules}
 use Rattle.working.specs.Working.{link_verdict}
 use Rattle.working.proofs.Working.{judge_yes, judge_no}
 use Rattle.claim_verdicts.proofs.link_verdict.Goals as goal
-
-pub link_meets-requires : goal.link_meets-requires
-link_meets-requires c =
-    (rw c.link_claim_at.ensures c.requires.i_bound.1, c.requires.n_bound.0, c.requires.n_bound.1)
 
 pub returns-then-link_meets : goal.returns-then-link_meets
 unfolding link_verdict

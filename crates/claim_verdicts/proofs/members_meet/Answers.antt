@@ -1,35 +1,29 @@
--- `claim_verdicts::members_meet` meets its contract. The individuals below `j` meet the claim, where it mentions them.
+-- `claim_verdicts::members_meet` meets its contract. It asks of the individuals between two bounds, and the claim mentions no others.
 -- Assumes nothing.
-use Prim.Native.Nat.{ℕ, ◌-◌, ◌<◌}
+use mathlib.Core.Path.{refl}
+use Prim.Native.Nat.{ℕ}
 use native.Mathlib.Omega.{arith}
-use borrow.Author.Count.{below_more}
 use borrow.Author.Rules.{rules}
-use Rattle.chain.proofs.Decisions.{tells_yes, tells_no, told_yes, told_no}
+use Rattle.std.proofs.lemmas.Iterator.{cases_from_all, YieldsList-from_range}
 use Rattle.claims.specs.Claims.{membership_of}
 use Rattle.columns.specs.Columns.{cell_at}
 use Rattle.cells.specs.Cells.{element_in}
 use Rattle.claim_verdicts.specs.Covered.{MeetsIfMentioned}
-use Rattle.claim_verdicts.proofs.Judging.{members_met, members_unmet}
+use Rattle.claim_verdicts.proofs.Judging.{range_told, members_met, members_unmet}
 use Rattle.claim_verdicts.proofs.members_meet.Goals as goal
-
-pub loop-j-init : goal.loop-j-init
-loop-j-init c = λ k l m. absurd (omega (arith, c.mentioned_from-j.ensures k m))
-
-pub member_meets-requires : goal.member_meets-requires
-member_meets-requires c =
-    record { membership_covered = (c.requires.0, omega (arith, c.mentioned-end.ensures)); n_bound = (c.requires.1, c.requires.2) }
-
-pub returns-then-not-member_meets : goal.returns-then-not-member_meets
-returns-then-not-member_meets c =
-    let s = c.args in
-    tells_no (members_unmet (cell_at s.values.now) (element_in s.individuals.now) (membership_of s.claim)
-    c.loop-j.j (told_no _ c.member_meets.ensures c.if-not-member_meets.true))
-
-pub loop-j-preserved : goal.loop-j-preserved
-loop-j-preserved c = below_more _ c.loop-j.j c.loop-j.invariant (told_yes _ c.member_meets.ensures c.if-not-member_meets.false)
 
 pub returns : goal.returns
 returns c =
-    let s = c.args in
-    tells_yes (members_met (cell_at s.values.now) (element_in s.individuals.now) (membership_of s.claim)
-    c.loop-j.j (omega (arith, c.mentioned-end.ensures)) c.loop-j.invariant)
+    let grade = cell_at c.args.columns.now in
+    let element = element_in c.args.frame.now.individuals.now in
+    let q = membership_of c.args.claim in
+    let Meets : ℕ → Type 0 = λ j. MeetsIfMentioned grade element q j in
+    let from = c.mentioned_from.result in
+    let end = c.mentioned.result in
+    let told =
+    range_told Meets from end c.all.result
+    (cases_from_all _ _ _ Meets (λ j. ¬ Meets j) c.all.ensures.ran (YieldsList-from_range from end _ refl refl)
+    (λ x p k. search rules) (λ x p k. search rules)) in (
+      λ t. members_met grade element q end (omega arith) (λ j l m. told.0 t j (c.mentioned_from.ensures j m) l m),
+      λ f. let w = told.1 f in members_unmet grade element q w.0 w.1,
+    )

@@ -1,14 +1,9 @@
 -- `claim_verdicts::membership_verdict` meets its contract.
 -- Assumes nothing.
 use mathlib.Core.Path.{sym}
-use borrow.Author.Rules.{rules}
 use Rattle.working.specs.Working.{membership_verdict}
 use Rattle.working.proofs.Working.{judge_yes, judge_no}
 use Rattle.claim_verdicts.proofs.membership_verdict.Goals as goal
-
-pub members_meet-requires : goal.members_meet-requires
-members_meet-requires c =
-    (rw c.membership_at.ensures c.requires.i_bound.1, c.requires.n_bound.0, c.requires.n_bound.1)
 
 pub returns-then-members_meet : goal.returns-then-members_meet
 unfolding membership_verdict

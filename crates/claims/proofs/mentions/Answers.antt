@@ -1,21 +1,19 @@
 -- `claims::mentions` meets its contract.
 -- Assumes nothing.
 use native.Mathlib.Omega.{arith}
-use borrow.Author.Rules.{rules}
-use Rattle.chain.proofs.Decisions.{tells_no, tells_map}
-use Rattle.claims.proofs.Claims.{one_mentioned, set_mentions}
+use borrow.Author.Tests.{ltb-true}
+use Rattle.chain.proofs.Decisions.{tells_map}
+use Rattle.encoding.proofs.Bits.{bits_mem}
 use Rattle.claims.proofs.mentions.Goals as goal
 
-pub returns-then-claim-lt-SETS : goal.returns-then-claim-lt-SETS
-returns-then-claim-lt-SETS c = one_mentioned _ _ c.if-claim-lt-SETS.true _ _ c.wide.ensures.0
+pub returns-then-j-lt8 : goal.returns-then-j-lt8
+returns-then-j-lt8 c =
+    let w = bits_mem c.in-Set.members c.args.j in
+    rw (← c.in-Set.ensures) (tells_map _ (λ b. w.1 (c.if-j-lt8.true, b)) (λ m. (w.0 m).1) c.bit.ensures)
 
-pub returns-then-j-ge8 : goal.returns-then-j-ge8
-returns-then-j-ge8 c =
-    let a = c.args in
-    tells_no (λ m. omega (arith, ((set_mentions a.claim.sense a.claim.named (λ l. omega arith) a.j).0 m).0))
-
-pub returns : goal.returns
-returns c =
-    let a = c.args in
-    let w = set_mentions a.claim.sense a.claim.named (λ l. omega arith) a.j in
-    tells_map _ (λ b. w.1 (omega arith, b)) (λ m. (w.0 m).1) c.bit.ensures
+pub returns-else-j-lt8 : goal.returns-else-j-lt8
+returns-else-j-lt8 c =
+    rw (← c.in-Set.ensures) (
+      λ e. absurd (omega (arith, ltb-true _ _ e, c.if-j-lt8.false)),
+      λ e m. omega (arith, ((bits_mem c.in-Set.members c.args.j).0 m).0, c.if-j-lt8.false),
+    )

@@ -1,91 +1,51 @@
--- `classes::thin_by` meets its contract. The candidates below `next` are done.
+-- `classes::thin_by` meets its contract. The candidates below `c` are done.
 -- Assumes nothing.
-use mathlib.Core.Path.{refl, ◌∙◌, ◌≡◌}
-use Prim.Native.Nat.{◌≤◌, ◌-◌}
 use native.Mathlib.Omega.{arith}
-use lib.ListN.{length, length-set}
-use borrow.Author.Tests.{not-true, not-false}
-use borrow.Author.Rules.{rules}
-use Rattle.reads.specs.Classes.{Thinning}
 use Rattle.reads.proofs.Classes.{thinning_start, thinning_end, thinning_off, thinning_new, thinning_gone, kept_le, matched_by}
 use Rattle.classes.proofs.thin_by.Goals as goal
+use Rattle.classes.proofs.thin_by.Goals.{then-table-at-eq1+then-matched, else-table-at-eq1, else-table-at-eq1-via-then-table-at-eq1+else-matched, else-table-at-eq1-via-else-table-at-eq1}
 
-pub loop-next-init : goal.loop-next-init
-loop-next-init c =
+pub loop-c-init : goal.loop-c-init
+loop-c-init c =
     let a = c.args in
-    let p = c.requires.in_bounds in
-    (refl, refl, omega arith, thinning_start a.list.now a.rows.now a.j a.count a.table.now a.memory.now c.requires.by_index)
+    let p = a.instance.now in
+    thinning_start a.list.now p.rows.now a.j p.count a.table.now a.memory.now c.requires.by_index
 
-pub bounds-table-j : goal.bounds-table-j
-bounds-table-j c =
+pub matched-requires-clause-by_index : goal.matched-requires-clause-by_index
+matched-requires-clause-by_index c =
     let a = c.args in
-    let p = c.requires.in_bounds in
-    let l = c.loop-next in
-    omega (arith, l.invariant.0, c.loop-next-test.true, p.1, p.3, p.4)
+    let p = a.instance.now in
+    let l = c.loop-c in
+    kept_le a.list.now p.rows.now a.j p.count a.table.now l.table l.memory l.c l.invariant (omega (arith, p.problem.candidates_few))
 
-pub loop-next-preserved-then-table-j-ne1 : goal.loop-next-preserved-then-table-j-ne1
-loop-next-preserved-then-table-j-ne1 c =
+pub loop-c-preserved : goal.loop-c-preserved
+loop-c-preserved c =
     let a = c.args in
-    let p = c.requires.in_bounds in
-    let l = c.loop-next in
-    let lt = c.loop-next-test.true in (
-      l.invariant.0,
-      l.invariant.1,
-      omega (arith, lt),
-      thinning_off a.list.now a.rows.now a.j a.count a.table.now l.table l.memory l.next l.invariant.3 lt c.if-table-j-ne1.true,
-    )
-
-pub matched-requires : goal.matched-requires
-matched-requires c =
-    let a = c.args in
-    let p = c.requires.in_bounds in
-    let l = c.loop-next in record { in_bounds = (p.0, omega (arith, l.invariant.1, p.2), omega (arith, c.loop-next-test.true, p.4), p.5); by_index = kept_le a.list.now a.rows.now a.j a.count a.table.now l.table l.memory l.next l.invariant.3 (omega (arith, l.invariant.2, p.4)) }
-
-pub loop-next-preserved-then-not-matched : goal.loop-next-preserved-then-not-matched
-loop-next-preserved-then-not-matched c =
-    let a = c.args in
-    let p = c.requires.in_bounds in
-    let l = c.loop-next in
-    let t = c.matched in (
-      l.invariant.0,
-      t.auto.memory ∙ l.invariant.1,
-      omega (arith, c.loop-next-test.true),
-      thinning_new a.list.now a.rows.now a.j a.count a.table.now l.table l.memory l.next l.invariant.3 _
-          c.loop-next-test.true c.if-table-j-ne1.false
-          (matched_by a.list.now a.rows.now l.next l.memory _ t.result _ c.if-not-matched.true t.ensures),
-    )
-
-pub bounds-table-j-in-loop-next : goal.bounds-table-j-in-loop-next
-bounds-table-j-in-loop-next c =
-    let a = c.args in
-    let p = c.requires.in_bounds in
-    let l = c.loop-next in
-    omega (arith, l.invariant.0, c.loop-next-test.true, p.1, p.3, p.4)
-
-pub loop-next-preserved : goal.loop-next-preserved
-loop-next-preserved c =
-    let a = c.args in
-    let p = c.requires.in_bounds in
-    let l = c.loop-next in
-    let t = c.matched in (
-      length-set l.table _ 0 ∙ l.invariant.0,
-      t.auto.memory ∙ l.invariant.1,
-      omega (arith, c.loop-next-test.true),
-      thinning_gone a.list.now a.rows.now a.j a.count a.table.now l.table l.memory l.next l.invariant.3 _
-          c.loop-next-test.true p.4
-          (omega (arith, l.invariant.0, c.loop-next-test.true, p.1, p.3, p.4))
-          (matched_by a.list.now a.rows.now l.next l.memory _ t.result _ c.if-not-matched.false t.ensures),
-    )
-
-pub shape_of-table : goal.shape_of-table
-shape_of-table c = c.loop-next.invariant.0
-
-pub shape_of-memory : goal.shape_of-memory
-shape_of-memory c = c.loop-next.invariant.1
+    let p = a.instance.now in
+    let l = c.loop-c in
+    let lt = c.loop-c-test.true in
+    elim c.if-table-at-eq1.branch [
+      | then-table-at-eq1+then-matched w ↦
+          rw (w.table-is, w.memory-is)
+          (thinning_gone a.list.now p.rows.now a.j p.count a.table.now l.table l.memory l.c l.invariant _ lt
+          p.problem.candidates_few (omega arith)
+          (matched_by a.list.now p.rows.now l.c l.memory _ w.matched.result _ w.if-matched.true w.matched.ensures))
+      | else-table-at-eq1 w ↦
+          elim w.else-table-at-eq1.branch [
+            | else-table-at-eq1-via-then-table-at-eq1+else-matched v ↦
+                rw (w.table-is, w.memory-is, v.memory-is)
+                (thinning_new a.list.now p.rows.now a.j p.count a.table.now l.table l.memory l.c l.invariant _ lt
+                v.if-table-at-eq1.true
+                (matched_by a.list.now p.rows.now l.c l.memory _ v.matched.result _ v.if-matched.false v.matched.ensures))
+            | else-table-at-eq1-via-else-table-at-eq1 v ↦
+                rw (w.table-is, w.memory-is, v.memory-is)
+                (thinning_off a.list.now p.rows.now a.j p.count a.table.now l.table l.memory l.c l.invariant lt v.if-table-at-eq1.false)
+          ]
+    ]
 
 pub returns : goal.returns
 returns c =
     let a = c.args in
-    let p = c.requires.in_bounds in
-    let l = c.loop-next in
-    thinning_end a.list.now a.rows.now a.j a.count a.table.now l.table l.memory l.next (omega (arith, c.loop-next-test.false)) l.invariant.3
+    let p = a.instance.now in
+    let l = c.loop-c in
+    thinning_end a.list.now p.rows.now a.j p.count a.table.now l.table l.memory l.c (omega (arith, c.loop-c-test.false)) l.invariant

@@ -1,17 +1,22 @@
--- `columns::taken_at` meets its contract. The row and the column are lent, and as long as the elements are many.
+-- `columns::taken_at` meets its contract. The row and the column are lent, each with as many entries as there are elements.
 -- Assumes nothing.
-use mathlib.Core.Path.{◌∙◌}
-use borrow.Author.Rules.{rules}
-use Rattle.sections.specs.Terms.{quantifier_of}
-use Rattle.columns.proofs.Workable.{lent_long, row_le, taken_lent}
+use mathlib.Core.Path.{◌≡◌, sym, ◌∙◌}
+use native.Mathlib.Omega.{arith}
+use lib.ListN.{length}
+use Rattle.sections.specs.Values.{as_quantifier}
+use Rattle.columns.proofs.Workable.{row_le, taken_lent}
 use Rattle.columns.proofs.taken_at.Goals as goal
 
 pub taken_over-requires : goal.taken_over-requires
 taken_over-requires c =
-    let ok = c.requires.le_kind.2 in
-    let long = lent_long ok c.links_from.ensures c.column_of.ensures in record { le_kind = (c.requires.le_kind.0, c.requires.le_kind.1, long.0, long.1); by_index = row_le ok c.links_from.ensures c.column_of.ensures c.args.logic.steps c.requires.by_index }
+    let ok = c.requires.reached in
+    record {
+      same_length = c.links_from.ensures.1 ∙ sym c.column.ensures.1;
+      by_index = λ f l. row_le ok c.links_from.ensures.0 c.args.logic.steps c.requires.by_index f (omega (arith, c.links_from.ensures.1));
+    }
 
 pub returns : goal.returns
 returns c =
-    c.taken_over.ensures ∙ taken_lent c.requires.le_kind.2 c.links_from.ensures c.column_of.ensures
-    (quantifier_of c.args.kind) c.args.logic
+    let long : length c.links_from.result.now ≡ c.args.n = c.links_from.ensures.1 in
+    c.taken_over.ensures
+    ∙ rw long (taken_lent c.requires.reached c.links_from.ensures.0 c.args.columns.now c.column.ensures.0 (as_quantifier c.args.quantifier) c.args.logic)

@@ -1,17 +1,10 @@
--- `columns::taken_over` meets its contract. `found` is what is taken over the elements before `f`.
+-- `columns::taken_over` meets its contract. `found` is what is taken over the elements so far.
 -- Assumes nothing.
-use mathlib.Core.Path.{◌≡◌, ap, ap₂, ◌∙◌}
-use Prim.Native.Nat.{◌≤◌, ◌-◌}
-use native.Mathlib.Omega.{arith}
-use borrow.Author.Rules.{rules}
-use Rattle.chain.specs.Connectives.{join}
-use Rattle.chain.proofs.Connectives.{over_none, over-more}
-use Rattle.sections.specs.Terms.{quantifier_of}
+use mathlib.Core.Path.{◌≡◌}
+use lib.ListN.{length}
+use Rattle.sections.specs.Values.{as_quantifier}
 use Rattle.columns.specs.Workable.{taken_over}
 use Rattle.columns.proofs.taken_over.Given as goal
 
-abbrev pub invariant-loop-f : goal.invariant-loop-f
-invariant-loop-f l = (l.f ≤ l.n) × (l.found ≡ taken_over (quantifier_of l.kind) l.logic l.row l.column l.f)
-
-abbrev pub decreases-loop-f : goal.decreases-loop-f
-decreases-loop-f l = l.n - l.f
+abbrev pub invariant-loop-link : goal.invariant-loop-link
+invariant-loop-link l = l.found ≡ taken_over (as_quantifier l.quantifier) l.logic l.row l.column (length l.yielded)

@@ -16,11 +16,11 @@ pub count_candidates-requires : goal.count_candidates-requires
 count_candidates-requires c =
     record { terms_right = rw c.terms_in.ensures c.requires.terms_right; terms_bound = rw c.terms_in.ensures (omega (arith, right-terms _ _ c.requires, right-few _ _ c.requires)) }
 
-pub returns-in-Exactly : goal.returns-in-Exactly
-returns-in-Exactly c =
-    let e = exactly_bounded _ _ (sym c.in-Exactly.ensures) in sym
+pub returns-in-Some : goal.returns-in-Some
+returns-in-Some c =
+    let e = exactly_bounded _ _ (sym c.in-Some.ensures) in sym
     (counted-few c.args.b.now c.args.s c.requires _ (rw (← c.terms_in.ensures) e.0) (omega (arith, e)))
 
-pub returns-in-More : goal.returns-in-More
-returns-in-More c =
-    sym (counted_many c.args.b.now c.args.s c.requires (rw (← c.terms_in.ensures) (more-bounded _ (sym c.in-More.ensures))))
+pub returns-in-None : goal.returns-in-None
+returns-in-None c =
+    sym (counted_many c.args.b.now c.args.s c.requires (rw (← c.terms_in.ensures) (more-bounded _ (sym c.in-None.ensures))))

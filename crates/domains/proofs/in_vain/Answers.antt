@@ -1,24 +1,40 @@
--- `domains::in_vain` meets its contract. The individuals below `j` each have a candidate.
+-- `domains::in_vain` meets its contract.
 -- Assumes nothing.
-use Prim.Native.Nat.{ℕ, ◌≤◌, ◌<◌, ◌-◌}
+use mathlib.Core.Path.{◌≡◌, refl, sym, subst}
+use mathlib.Core.Bool.{Bool}
+use Prim.Native.Nat.{ℕ, ◌<◌}
 use native.Mathlib.Omega.{arith}
-use borrow.Author.Count.{below_none, below_more}
+use lib.ListN.{length, get_or}
 use borrow.Author.Rules.{rules}
-use Rattle.chain.proofs.Decisions.{tells_yes, tells_no}
+use borrow.Author.Tests.{tests}
+use Rattle.std.specs.Bool.{MatchBool}
+use Rattle.std.specs.List.{range_with_len, AllWithin, HoldsAt}
+use Rattle.std.proofs.lemmas.Bool.{MatchBool-at_true, MatchBool-at_false}
+use Rattle.std.proofs.lemmas.Iterator.{cases_from_any, YieldsList-from_range}
+use Rattle.std.proofs.lemmas.List.FromFn.{length-range_with_len, get_or-range_with_len}
+use Rattle.chain.specs.Decisions.{Tells}
 use Rattle.domains.specs.Tables.{Lacks}
 use Rattle.domains.proofs.in_vain.Goals as goal
 
-pub loop-j-init : goal.loop-j-init
-loop-j-init c = (omega arith, below_none _)
+-- of the numbers below n, where they were asked one after another
+some_told : (P : ℕ → Type 0) (n : ℕ) (r : Bool)
+    → MatchBool r ((k : ℕ) × (k < length (range_with_len 0 n)) × HoldsAt P (range_with_len 0 n) k)
+    (AllWithin (λ j. ¬ P j) (range_with_len 0 n) 0 (length (range_with_len 0 n)))
+    → Tells r ((j : ℕ) × (j < n) × P j)
+some_told P n r m = (
+  λ e. let w = MatchBool-at_true _ _ e m in let l : w.0 < n = omega (arith, w.1, len) in (w.0, l, subst P (is w.0 l) (w.2 0)),
+  λ e v. MatchBool-at_false _ _ e m v.0 0 (omega arith) (omega (arith, v.1, len)) (subst P (sym (is v.0 v.1)) v.2),
+)
+  where
+    len : length (range_with_len 0 n) ≡ n
+    len = length-range_with_len 0 n
 
-pub lacks-requires : goal.lacks-requires
-lacks-requires c = (c.requires.0, omega (arith, c.loop-j-test.true, c.requires.1), c.requires.2)
-
-pub returns-then-lacks : goal.returns-then-lacks
-returns-then-lacks c = tells_yes (c.loop-j.j, omega (arith, c.loop-j-test.true), c.lacks.ensures.0 c.if-lacks.true)
-
-pub loop-j-preserved : goal.loop-j-preserved
-loop-j-preserved c = (omega arith, below_more _ c.loop-j.j c.loop-j.invariant.1 (c.lacks.ensures.1 c.if-lacks.false))
+    is : (j : ℕ) → j < n → get_or (range_with_len 0 n) j 0 ≡ j
+    is j l = omega (arith, get_or-range_with_len 0 n j 0 l)
 
 pub returns : goal.returns
-returns c = tells_no (λ v. c.loop-j.invariant.1 v.0 (omega (arith, v.1)) v.2)
+returns c =
+    let a = c.args in
+    some_told (Lacks a.table.now a.count) a.individuals c.any.result
+    (cases_from_any _ _ _ (Lacks a.table.now a.count) (λ j. ¬ Lacks a.table.now a.count j) c.any.ensures.ran
+    (YieldsList-from_range 0 a.individuals a.individuals refl (omega arith)) (λ x q k. search (rules, tests)) (λ x q k. search (rules, tests)))

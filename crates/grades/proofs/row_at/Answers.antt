@@ -1,7 +1,6 @@
 -- `grades::row_at` meets its contract.
 -- Assumes nothing.
 use Prim.Native.Nat.{◌*◌}
-use borrow.Author.Rules.{rules}
 use Rattle.chain.proofs.Blocks.{block_part}
 use Rattle.grades.proofs.row_at.Goals as goal
 

@@ -1,7 +1,6 @@
 -- `gradings::ranked_logic` meets its contract.
 -- Assumes nothing.
 use mathlib.Core.Path.{refl}
-use borrow.Author.Rules.{rules}
 use Rattle.claims.specs.Pairs.{pairs_of}
 use Rattle.gradings.proofs.Gradings.{ranked-grading}
 use Rattle.gradings.proofs.ranked_logic.Goals as goal

@@ -1,19 +1,16 @@
 -- `levels::note_for` meets its contract.
 -- Assumes nothing.
 use mathlib.Core.Path.{refl}
-use mathlib.Core.Logic.{inl, inr}
-use native.Mathlib.Omega.{arith}
-use borrow.Author.Rules.{rules}
+use mathlib.Core.Logic.{inl}
 use Rattle.chain.proofs.Decisions.{told_yes, told_no}
+use Rattle.levels.proofs.Levels.{noted-max}
 use Rattle.levels.proofs.note_for.Goals as goal
 
-pub returns-then-not-governs : goal.returns-then-not-governs
-returns-then-not-governs c = inl (told_no _ c.governs.ensures c.if-not-governs.true, refl)
+pub returns-then-governs : goal.returns-then-governs
+returns-then-governs c =
+    let a = c.args in
+    rw (c.max.ensures, c.from.ensures, c.from-then-governs.ensures, c.from-then-governs-2.ensures)
+    (noted-max a.logic a.t a.claim.role a.claim.grade _ a.levels.now (told_yes _ c.governs.ensures c.if-governs.true))
 
-pub returns-then-levels-at : goal.returns-then-levels-at
-returns-then-levels-at c =
-    inr (told_yes _ c.governs.ensures c.if-not-governs.false, inr (c.if-levels-at.true, refl))
-
-pub returns-else-levels-at : goal.returns-else-levels-at
-returns-else-levels-at c =
-    inr (told_yes _ c.governs.ensures c.if-not-governs.false, inl (omega (arith, c.if-levels-at.false), refl))
+pub returns-else-governs : goal.returns-else-governs
+returns-else-governs c = inl (told_no _ c.governs.ensures c.if-governs.false, refl)

@@ -1,7 +1,6 @@
 -- `levels::row_at` meets its contract.
 -- Assumes nothing.
 use Prim.Native.Nat.{◌*◌}
-use borrow.Author.Rules.{rules}
 use Rattle.chain.proofs.Blocks.{block_part}
 use Rattle.levels.proofs.row_at.Goals as goal
 

@@ -1,15 +1,13 @@
 -- `models::is_name` meets its contract.
 -- Assumes nothing.
-use borrow.Author.Rules.{rules}
 use Rattle.chain.proofs.Decisions.{tells_no}
-use Rattle.models.proofs.Rows.{name-not, name_tells}
+use Rattle.models.proofs.Rows.{name_tells, name-other}
 use Rattle.models.proofs.is_name.Goals as goal
 
-pub returns-then-terms-i-ne0 : goal.returns-then-terms-i-ne0
-returns-then-terms-i-ne0 c =
-    tells_no (name-not c.args.terms.now c.requires.terms_right c.args.i c.args.a c.requires.i_bound c.if-terms-i-ne0.true)
+pub returns-in-Name : goal.returns-in-Name
+returns-in-Name c = name_tells c.args.grader.now.terms.now c.args.i c.args.a c.requires.is_term c.in-Name.b _ c.in-Name.ensures.term_value c.from.ensures
 
-pub returns : goal.returns
-returns c =
-    name_tells c.args.terms.now c.requires.terms_right c.args.i c.args.a c.requires.i_bound c.wide.result c.if-terms-i-ne0.false
-    c.wide.ensures.0
+pub returns-in_default : goal.returns-in_default
+returns-in_default c =
+    tells_no (name-other c.args.grader.now.terms.now c.args.i c.args.a c.requires.is_term c.term_at.result c.term_at.ensures.term_value
+    c.in_default.not-Name)

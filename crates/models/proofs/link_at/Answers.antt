@@ -1,17 +1,15 @@
 -- `models::link_at` meets its contract. The rows are lent, 64 grades each.
 -- Assumes nothing.
 use native.Mathlib.Omega.{arith}
-use borrow.Author.Rules.{rules}
 use Rattle.grades.proofs.Rows.{length-row_at}
 use Rattle.models.proofs.link_at.Goals as goal
 
 pub link_of_rows-requires : goal.link_of_rows-requires
 link_of_rows-requires c =
     record {
-      terms_right = c.requires.terms_right;
-      terms_in_bounds = (
-        rw c.row_at.ensures (omega (arith, length-row_at c.args.rows.now c.args.e (omega (arith, c.requires.terms_bound)), c.requires.terms_bound.0)),
-        rw c.row_at-2.ensures (omega (arith, length-row_at c.args.rows.now c.args.f (omega (arith, c.requires.terms_bound)), c.requires.terms_bound.0)),
+      rows_long = (
+        rw c.row_at.ensures (omega (arith, length-row_at c.args.rows.now c.args.e (omega (arith, c.requires.e_bound)), c.args.grader.now.terms_few)),
+        rw c.row_at-2.ensures (omega (arith, length-row_at c.args.rows.now c.args.f (omega (arith, c.requires.e_bound)), c.args.grader.now.terms_few)),
       );
     }
 

@@ -3,7 +3,6 @@
 use Prim.Native.Nat.{◌<◌}
 use native.Mathlib.Omega.{arith}
 use lib.ListN.{length}
-use borrow.Author.Rules.{rules}
 use Rattle.models.proofs.Listing.{lists-more, lists-same, lists-few, lists-room}
 use Rattle.models.proofs.list_next.Goals as goal
 

@@ -1,31 +1,28 @@
--- `models::name_grade` meets its contract. No term before number `i` has the name.
+-- `models::name_grade` meets its contract. The search finds the first term that has the name, or none.
 -- Assumes nothing.
-use mathlib.Core.Path.{◌≡◌}
-use Prim.Native.Nat.{ℕ, ◌≤◌, ◌<◌, ◌-◌}
+use mathlib.Core.Path.{◌≡◌, ◌∙◌}
+use Prim.Native.Nat.{ℕ}
 use native.Mathlib.Omega.{arith}
-use borrow.Author.Count.{below_none, below_more}
+use lib.ListN.{get_or}
 use borrow.Author.Rules.{rules}
-use Rattle.semantics.specs.Terms.{name, term}
-use Rattle.sections.specs.Terms.{term_count, terms_of}
+use Rattle.std.proofs.lemmas.Iterator.{first_from_Range}
+use Rattle.semantics.specs.Terms.{term, name}
+use Rattle.sections.specs.Terms.{terms_of}
 use Rattle.sections.proofs.Terms.{length-terms}
+use Rattle.models.proofs.Listing.{each_option}
 use Rattle.models.proofs.Rows.{name-found, name_missed}
 use Rattle.models.proofs.name_grade.Goals as goal
 
-pub loop-i-init : goal.loop-i-init
-loop-i-init c = (omega arith, below_none _)
-
-pub returns-then-is_name : goal.returns-then-is_name
-returns-then-is_name c =
-    let l = c.loop-i in
-    name-found (terms_of c.args.terms.now) c.args.a c.args.row.now l.i (rw (length-terms c.args.terms.now) (omega arith))
-    (c.is_name.ensures.0 c.if-is_name.true) l.invariant.1
-
-pub loop-i-preserved : goal.loop-i-preserved
-loop-i-preserved c =
-    let l = c.loop-i in
-    (omega arith, below_more _ l.i l.invariant.1 (c.is_name.ensures.1 c.if-is_name.false))
-
 pub returns : goal.returns
 returns c =
-    name_missed (terms_of c.args.terms.now) c.args.a c.args.row.now
-    (λ i l. let m : i < term_count c.args.terms.now = rw (← length-terms c.args.terms.now) l in c.loop-i.invariant.1 i (omega arith))
+    let a = c.args in
+    let ts = terms_of a.grader.now.terms.now in
+    let Is : ℕ → Type 0 = λ i. term ts i ≡ name a.a in
+    let w = first_from_Range _ _ _ c.find.result Is (λ i. ¬ Is i) c.find.ensures.ran (λ x q k. search rules) (λ x q k. search rules) in
+    each_option c.find.result
+    (λ e. let m = rw e at c.map_or.ensures in
+    let f = rw e at w in m ∙ name_missed ts a.a a.row.now (λ i l. f i (omega arith) (omega (arith, l, length-terms a.grader.now.terms.now))))
+    (λ i e. let m = rw e at c.map_or.ensures in
+    let f = rw e at w in
+    let is : c.map_or.result ≡ get_or a.row.now i 0 = search rules in
+    is ∙ name-found ts a.a a.row.now i (omega (arith, f.1, length-terms a.grader.now.terms.now)) f.2 (λ j l. f.3 j (omega arith) l))

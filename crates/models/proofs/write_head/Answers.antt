@@ -5,7 +5,6 @@ use mathlib.Core.List.{List, [], ◌∷◌, flat_map}
 use Prim.Native.Nat.{ℕ}
 use native.Mathlib.Omega.{arith}
 use lib.Seq.{sets, lt-length-sets, length-sets}
-use borrow.Author.Rules.{rules}
 use Rattle.encoding.specs.Words.{word_bytes}
 use Rattle.models.specs.Rows.{head_by}
 use Rattle.models.proofs.Filling.{stored}

@@ -1,36 +1,33 @@
 -- `placer::place_thinned` meets its contract.
 -- Assumes nothing.
-use mathlib.Core.Path.{◌∙◌}
+use mathlib.Core.Path.{refl, sym, ◌∙◌}
+use mathlib.Core.Bool.{true}
 use native.Mathlib.Omega.{arith}
-use borrow.Author.Rules.{rules}
-use Rattle.placer.proofs.Pruning.{thinned_walk}
+use Rattle.placer.proofs.Pruning.{vain_finds, thinned_walk, thinned_domains}
+use Rattle.placer.proofs.Walk.{placed_true}
 use Rattle.placer.proofs.place_thinned.Goals as goal
 
-pub place_at_once-requires : goal.place_at_once-requires
-place_at_once-requires c =
-    let t = c.thin in
+pub returns-then-in_vain : goal.returns-then-in_vain
+returns-then-in_vain c = vain_finds c.args.instance.now c.args.table.now c.args.seats.now (c.in_vain.ensures.0 c.if-in_vain.true)
+
+pub place_at_once-requires-clause-domains : goal.place_at_once-requires-clause-domains
+place_at_once-requires-clause-domains c =
     let g = c.note_all_gaps in
-    record { setting = record { problem = c.requires.problem; table_long = omega (arith, g.auto.table, t.auto.table, c.requires.in_bounds.0); gaps = g.ensures.gaps }; individuals_in_bounds = c.requires.in_bounds.1 }
+    thinned_domains c.args.instance.now c.thin.ensures g.new.table g.ensures.same_allowed (omega arith) g.ensures.gaps c.requires.graded
+
+pub place_pruned-requires-clause-domains : goal.place_pruned-requires-clause-domains
+place_pruned-requires-clause-domains c =
+    let g = c.note_all_gaps in
+    thinned_domains c.args.instance.now c.thin.ensures g.new.table g.ensures.same_allowed (omega arith) g.ensures.gaps c.requires.graded
 
 pub returns-then-place_at_once : goal.returns-then-place_at_once
 returns-then-place_at_once c =
-    let t = c.thin in
     let g = c.note_all_gaps in
-    c.place_at_once.ensures c.if-place_at_once.true ∙ thinned_walk t.ensures g.new.table g.ensures.same_allowed
+    let o = c.place_at_once in
+    placed_true o.result _ c.if-place_at_once.true
+    ∙ (sym (placed_true true _ refl) ∙ o.ensures c.if-place_at_once.true ∙ thinned_walk c.args.instance.now c.thin.ensures g.new.table g.ensures.same_allowed)
 
-pub place_pruned-requires : goal.place_pruned-requires
-place_pruned-requires c =
-    let t = c.thin in
-    let g = c.note_all_gaps in record {
-      setting = record { problem = c.requires.problem; table_long = omega (arith, g.auto.table, t.auto.table, c.requires.in_bounds.0); gaps = g.ensures.gaps };
-      individuals_in_bounds = (
-        omega (arith, c.place_at_once.auto.seats, c.requires.in_bounds.1),
-        λ j k h l e. c.requires.in_bounds.2 j k h l (t.ensures.fewer _ ((g.ensures.same_allowed _).0 e)),
-      );
-    }
-
-pub returns : goal.returns
-returns c =
-    let t = c.thin in
+pub returns-else-place_at_once : goal.returns-else-place_at_once
+returns-else-place_at_once c =
     let g = c.note_all_gaps in
-    c.place_pruned.ensures ∙ thinned_walk t.ensures g.new.table g.ensures.same_allowed
+    c.place_pruned.ensures ∙ thinned_walk c.args.instance.now c.thin.ensures g.new.table g.ensures.same_allowed

@@ -2,7 +2,6 @@
 -- Assumes nothing.
 use mathlib.Core.Path.{ap, ◌∙◌}
 use Prim.Native.Nat.{ℕ, ◌+◌, ◌^◌}
-use borrow.Author.Rules.{rules}
 use Rattle.powers.specs.Bounded.{bounded}
 use Rattle.places.proofs.Places.{candidates_power}
 use Rattle.places.proofs.count_candidates.Goals as goal

@@ -1,10 +1,22 @@
--- `places::find_homes` meets its contract.
+-- `places::find_homes` meets its contract. The names of the terms before `i` are noted, and their homes filled in.
 -- Assumes nothing.
+use mathlib.Core.Path.{refl}
 use native.Mathlib.Omega.{arith}
-use borrow.Author.Rules.{rules}
-use Rattle.chain.proofs.Lists.{zeros-long, zeros-at}
+use lib.ListN.{length-set}
+use borrow.Author.Count.{below_none}
+use Rattle.sections.specs.Terms.{terms_of}
+use Rattle.places.proofs.Homes.{none-noted, filled_more}
 use Rattle.places.proofs.find_homes.Goals as goal
 
-pub fill_homes-requires : goal.fill_homes-requires
-fill_homes-requires c =
-    record { terms_right = c.requires.terms_right; terms_bound = (c.requires.terms_bound, omega (arith, zeros-long 64), zeros-long 16, zeros-at 16) }
+pub loop-i-init : goal.loop-i-init
+loop-i-init c = record { long = refl; noted = none-noted (terms_of c.args.terms.now); filled = below_none _ }
+
+pub loop-i-preserved : goal.loop-i-preserved
+loop-i-preserved c =
+    let l = c.loop-i in
+    let h = c.home_at.ensures in
+    record {
+      long = simp length-set l.invariant.long;
+      noted = h.noted;
+      filled = filled_more (terms_of c.args.terms.now) l.homes l.i _ (omega (arith, l.invariant.long, c.requires.terms_bound)) h.value l.invariant.filled;
+    }

@@ -1,41 +1,37 @@
 -- `places::home_at` meets its contract.
 -- Assumes nothing.
 use mathlib.Core.Path.{◌≡◌, sym}
-use Prim.Native.Nat.{◌<◌}
-use native.Mathlib.Omega.{arith}
-use lib.ListN.{get_or}
 use borrow.Author.Rules.{rules}
-use Rattle.sections.specs.Terms.{a_at}
-use Rattle.places.proofs.Homes.{other_home, other_noted, name-few, known-home, known-noted, new_home, new-noted}
+use Rattle.semantics.specs.Books.{name_above}
+use Rattle.sections.specs.Terms.{term_at}
+use Rattle.places.proofs.Homes.{other_home, other_noted, known-home, known-noted, new_home, new-noted}
 use Rattle.places.proofs.home_at.Goals as goal
 
-pub returns-then-terms-i-ne0 : goal.returns-then-terms-i-ne0
-returns-then-terms-i-ne0 c =
-    let a = c.args in record { value = sym (other_home a.terms.now c.requires.terms_right a.i c.requires.i_bound.0 a.firsts.now c.requires.i_bound.3 c.if-terms-i-ne0.true); noted = other_noted a.terms.now c.requires.terms_right a.i c.requires.i_bound.0 a.firsts.now c.requires.i_bound.3 c.if-terms-i-ne0.true }
-
-pub bounds-firsts-a : goal.bounds-firsts-a
-bounds-firsts-a c =
+pub returns-in_default : goal.returns-in_default
+returns-in_default c =
     let a = c.args in
-    omega (arith, c.wide-a.ensures.0, name-few a.terms.now c.requires.terms_right a.i c.requires.i_bound.0 a.firsts.now c.requires.i_bound.3 c.if-terms-i-ne0.false)
+    let q = c.requires.i_bound in
+    let none : name_above (term_at a.terms.now a.i) ≡ 0 = search rules in record {
+      value = sym (other_home a.terms.now a.i q.0 a.firsts.now q.2 none);
+      noted = other_noted a.terms.now a.i q.0 a.firsts.now q.2 none;
+    }
 
-pub returns-then-noted-gt0 : goal.returns-then-noted-gt0
-returns-then-noted-gt0 c =
+pub returns-in-Some : goal.returns-in-Some
+returns-in-Some c =
     let a = c.args in
-    let k = c.if-terms-i-ne0.false in
-    let e : c.wide-a.result ≡ a_at a.terms.now a.i = c.wide-a.ensures.0 in
-    let l : 0 < get_or a.firsts.now (a_at a.terms.now a.i) 0 = rw e at c.if-noted-gt0.true in
-    let h = known-home a.terms.now c.requires.terms_right a.i c.requires.i_bound.0 a.firsts.now c.requires.i_bound.3 k l in
-    record { value = rw e (omega (arith, h)); noted = known-noted a.terms.now c.requires.terms_right a.i c.requires.i_bound.0 a.firsts.now c.requires.i_bound.3 k l }
+    let q = c.requires.i_bound in
+    let n = c.in-Name in
+    let known = rw c.from-name.ensures at c.in-Some.is in record {
+      value = sym (known-home a.terms.now a.i q.0 a.firsts.now q.2 n.a n.ensures.operands_below n.ensures.term_value _ known);
+      noted = known-noted a.terms.now a.i q.0 a.firsts.now q.2 n.a n.ensures.operands_below n.ensures.term_value _ known;
+    }
 
-pub bounds-firsts-a-2 : goal.bounds-firsts-a-2
-bounds-firsts-a-2 c =
+pub returns-in-None : goal.returns-in-None
+returns-in-None c =
     let a = c.args in
-    omega (arith, c.wide-a.ensures.0, name-few a.terms.now c.requires.terms_right a.i c.requires.i_bound.0 a.firsts.now c.requires.i_bound.3 c.if-terms-i-ne0.false)
-
-pub returns : goal.returns
-returns c =
-    let a = c.args in
-    let k = c.if-terms-i-ne0.false in
-    let e : c.wide-a.result ≡ a_at a.terms.now a.i = c.wide-a.ensures.0 in
-    let n : get_or a.firsts.now c.wide-a.result 0 ≡ 0 = omega arith in
-    let z : get_or a.firsts.now (a_at a.terms.now a.i) 0 ≡ 0 = rw e at n in record { value = sym (new_home a.terms.now c.requires.terms_right a.i c.requires.i_bound.0 a.firsts.now c.requires.i_bound.3 k z); noted = rw e (new-noted a.terms.now c.requires.terms_right a.i c.requires.i_bound.0 a.firsts.now c.requires.i_bound.3 k z c.requires.i_bound.2) }
+    let q = c.requires.i_bound in
+    let n = c.in-Name in
+    let new = rw c.from-name.ensures at c.in-None.is in record {
+      value = sym (new_home a.terms.now a.i q.0 a.firsts.now q.2 n.a n.ensures.operands_below n.ensures.term_value new);
+      noted = rw c.from-name.ensures (new-noted a.terms.now a.i q.0 a.firsts.now q.2 n.a n.ensures.operands_below n.ensures.term_value new c.told-firsts);
+    }

@@ -1,7 +1,6 @@
 -- `shapes::individuals_at` meets its contract. A role's rows fit where its squares do.
 -- Assumes nothing.
 use native.Mathlib.Omega.{arith}
-use borrow.Author.Rules.{rules}
 use Rattle.shapes.proofs.Bounds.{rows_le}
 use Rattle.shapes.proofs.individuals_at.Goals as goal
 

@@ -1,9 +1,9 @@
--- `sheets::all_at_most` meets its contract. To be at most a number is to be below the next.
+-- `sheets::all_at_most` meets its contract.
 -- Assumes nothing.
-use native.Mathlib.Omega.{arith}
+use Prim.Native.Nat.{◌≤◌}
 use borrow.Author.Rules.{rules}
-use Rattle.chain.proofs.Decisions.{tells_map}
+use Rattle.sheets.proofs.Entries.{entries-tell}
 use Rattle.sheets.proofs.all_at_most.Goals as goal
 
 pub returns : goal.returns
-returns c = tells_map _ (λ f i l. omega (arith, f i l)) (λ f i l. omega (arith, f i l)) c.all_below.ensures
+returns c = entries-tell (λ x. x ≤ c.args.limit) c.args.s.now _ _ _ _ (search rules) c.all.ensures.ran (λ x f k. search rules) (λ x f k. search rules)

@@ -18,7 +18,9 @@ pub sheet_laid_out-requires : goal.sheet_laid_out-requires
 sheet_laid_out-requires c = ((told_yes _ c.head_right.ensures c.if-not-head_right.false).0, c.shape_of-p.ensures.1)
 
 pub returns-then-not-sheet_laid_out : goal.returns-then-not-sheet_laid_out
-returns-then-not-sheet_laid_out c = sym (sheet_14 _ _ _ _ _ (told_yes _ c.head_right.ensures c.if-not-head_right.false) (rw (← c.shape_of-p.ensures.0) (told_no _ c.sheet_laid_out.ensures c.if-not-sheet_laid_out.true)))
+returns-then-not-sheet_laid_out c =
+    sym (sheet_14 _ _ _ _ _ (told_yes _ c.head_right.ensures c.if-not-head_right.false)
+    (rw (← c.shape_of-p.ensures.0) (told_no _ c.sheet_laid_out.ensures c.if-not-sheet_laid_out.true)))
 
 pub entries_right-requires : goal.entries_right-requires
 entries_right-requires c = omega (arith, told_yes _ c.sheet_laid_out.ensures c.if-not-sheet_laid_out.false)

@@ -1,33 +1,38 @@
 -- `slots::put_slot` meets its contract.
 -- Assumes nothing.
-use mathlib.Core.Logic.{inl, inr}
-use Prim.Native.Nat.{◌≤◌}
+use mathlib.Core.Path.{◌∙◌}
 use native.Mathlib.Omega.{arith}
-use borrow.Author.Rules.{rules}
-use Rattle.sections.specs.Terms.{kind_at}
-use Rattle.slots.proofs.Collecting.{slots_other, slots-room, slots-more}
+use Rattle.sections.specs.Values.{as_quantifier}
+use Rattle.sections.proofs.Values.{other_value}
+use Rattle.slots.proofs.Collecting.{slots_other, read-room, read-more}
 use Rattle.slots.proofs.put_slot.Goals as goal
-
-pub returns-then-kind-lt4 : goal.returns-then-kind-lt4
-returns-then-kind-lt4 c =
-    slots_other c.args.terms.now c.args.slots.now c.args.i c.args.m c.requires.i_bound.0 c.requires.slots_collected (inl (omega arith))
-
-pub returns-then-kind-gt5 : goal.returns-then-kind-gt5
-returns-then-kind-gt5 c =
-    slots_other c.args.terms.now c.args.slots.now c.args.i c.args.m c.requires.i_bound.0 c.requires.slots_collected (inr (omega arith))
 
 pub write_slot-requires : goal.write_slot-requires
 write_slot-requires c =
+    let a = c.args in
+    let t = c.in-Quantified in
     let p = c.requires.i_bound in
-    omega (arith, slots-room c.args.terms.now c.args.slots.now c.args.i c.args.m c.requires.i_bound.0 c.requires.slots_collected (omega arith))
+    let room = read-room a.terms.now a.slots.now a.i a.m p.0 c.requires.slots_collected (as_quantifier t.quantifier) t.role t.child t.ensures in
+    (omega (arith, room, p.3), p.2)
 
 pub overflow_add-result : goal.overflow_add-result
 overflow_add-result c =
+    let a = c.args in
+    let t = c.in-Quantified in
     let p = c.requires.i_bound in
-    omega (arith, slots-room c.args.terms.now c.args.slots.now c.args.i c.args.m c.requires.i_bound.0 c.requires.slots_collected (omega arith))
+    omega (arith, p.3, read-room a.terms.now a.slots.now a.i a.m p.0 c.requires.slots_collected (as_quantifier t.quantifier) t.role t.child t.ensures)
 
-pub returns : goal.returns
-returns c =
-    let k : (4 ≤ kind_at c.args.terms.now c.args.i) × (kind_at c.args.terms.now c.args.i ≤ 5) = omega arith in
+pub returns-in-Quantified : goal.returns-in-Quantified
+returns-in-Quantified c =
+    let a = c.args in
+    let t = c.in-Quantified in
     let p = c.requires.i_bound in
-    slots-more c.args.terms.now c.args.slots.now c.args.i c.args.m c.requires.i_bound.0 c.requires.slots_collected k _ c.write_slot.ensures (omega (arith, slots-room c.args.terms.now c.args.slots.now c.args.i c.args.m c.requires.i_bound.0 c.requires.slots_collected k))
+    let room = read-room a.terms.now a.slots.now a.i a.m p.0 c.requires.slots_collected (as_quantifier t.quantifier) t.role t.child t.ensures in
+    read-more a.terms.now a.slots.now a.i a.m p.0 c.requires.slots_collected (as_quantifier t.quantifier) t.role t.child t.ensures
+    _ c.write_slot.ensures (omega (arith, room, p.2, p.3))
+
+pub returns-in_default : goal.returns-in_default
+returns-in_default c =
+    let a = c.args in
+    slots_other a.terms.now a.slots.now a.i a.m c.requires.i_bound.0 c.requires.slots_collected (λ k r x e.
+    other_value c.read_term.result c.in_default.not-Quantified k r x (c.read_term.ensures ∙ e))

@@ -1,15 +1,10 @@
 -- `slots::write_slot` meets its contract.
 -- Assumes nothing.
 use native.Mathlib.Omega.{arith}
-use lib.ListN.{length-set}
-use borrow.Author.Rules.{rules}
+use Rattle.slots.proofs.Collecting.{slot-written}
 use Rattle.slots.proofs.write_slot.Goals as goal
 
-pub bounds-slots-m-2 : goal.bounds-slots-m-2
-bounds-slots-m-2 c = simp length-set (omega arith)
-
-pub bounds-slots-m-3 : goal.bounds-slots-m-3
-bounds-slots-m-3 c = simp length-set (omega arith)
-
-pub bounds-slots-m-4 : goal.bounds-slots-m-4
-bounds-slots-m-4 c = simp length-set (omega arith)
+pub returns : goal.returns
+returns c =
+    let a = c.args in
+    slot-written a.slots.now c.copy_from_slice.new.self a.m a.kind a.role a.child a.term (omega arith) c.copy_from_slice.ensures.after

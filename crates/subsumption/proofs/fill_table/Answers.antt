@@ -16,8 +16,8 @@ pub returns : goal.returns
 returns c =
     let suppose-all = c.suppose_all in
     let narrow-all = c.narrow_all in
-    let G = grading c.args.logic (terms_of c.args.terms.now) in
-    let n = term_count c.args.terms.now in
+    let G = grading c.args.grader.now.logic (terms_of c.args.grader.now.terms.now) in
+    let n = term_count c.args.grader.now.terms.now in
     c.write_sets.ensures ∙ ap (λ (l : List ℕ). l ++ drop (n * n) c.args.table.now)
-    (sets_table G (marked c.args.marks.now c.args.count) n narrow-all.new.sets (sym (length-terms c.args.terms.now))
-    (narrowed_marked G c.args.marks.now c.args.count n suppose-all.new.sets narrow-all.new.sets c.requires.terms_bound.0 suppose-all.ensures narrow-all.ensures))
+    (sets_table G (marked c.args.marks.now c.args.count) n narrow-all.new.sets (sym (length-terms c.args.grader.now.terms.now))
+    (narrowed_marked G c.args.marks.now c.args.count n suppose-all.new.sets narrow-all.new.sets c.args.grader.now.terms_few suppose-all.ensures narrow-all.ensures))

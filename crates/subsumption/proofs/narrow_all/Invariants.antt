@@ -14,8 +14,5 @@ use Rattle.term_sets.proofs.Sets.{narrowed_not, narrowed_then, below_next}
 use Rattle.subsumption.proofs.narrow_all.Given as goal
 
 abbrev pub invariant-loop-c : goal.invariant-loop-c
-invariant-loop-c l = (l.c ≤ l.count) × (length l.sets ≡ length l.initial.sets) × Narrowed (term_count l.terms) l.initial.sets l.sets (λ i j.
-    (d : ℕ) → d < l.c → Marked l.marks d → grade_in (grading l.logic (terms_of l.terms)) d i ≤ grade_in (grading l.logic (terms_of l.terms)) d j)
-
-abbrev pub decreases-loop-c : goal.decreases-loop-c
-decreases-loop-c l = l.count - l.c
+invariant-loop-c l = Narrowed (term_count l.grader.terms.now) l.initial.sets l.sets (λ i j. (d : ℕ) → d < l.c → Marked l.marks d
+    → grade_in (grading l.grader.logic (terms_of l.grader.terms.now)) d i ≤ grade_in (grading l.grader.logic (terms_of l.grader.terms.now)) d j)

@@ -10,8 +10,8 @@ pub returns-then-marks-c-eq1 : goal.returns-then-marks-c-eq1
 returns-then-marks-c-eq1 c =
     let by = c.narrow_by in
     let taken = c.if-marks-c-eq1.true in
-    narrowed_same (term_count c.args.terms.now) c.args.sets.now by.new.sets _ _ (λ i j h l. (λ g _. g, λ g. g taken)) by.ensures
+    narrowed_same (term_count c.args.grader.now.terms.now) c.args.sets.now by.new.sets _ _ (λ i j h l. (λ g _. g, λ g. g taken)) by.ensures
 
 pub returns-else-marks-c-eq1 : goal.returns-else-marks-c-eq1
 returns-else-marks-c-eq1 c =
-    narrowed_not (term_count c.args.terms.now) c.args.sets.now c.args.sets.now _ (λ i j h l m. absurd (c.if-marks-c-eq1.false m)) refl
+    narrowed_not (term_count c.args.grader.now.terms.now) c.args.sets.now c.args.sets.now _ (λ i j h l m. absurd (c.if-marks-c-eq1.false m)) refl

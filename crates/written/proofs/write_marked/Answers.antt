@@ -31,19 +31,35 @@ pub slice_bounds-types-end : goal.slice_bounds-types-end
 slice_bounds-types-end c =
     omega (arith, c.list_marked-n.ensures.0, ap length c.requires.count_bound.2, c.requires.elements_value.0, c.requires.elements_bound.0, c.list_marked-n.auto)
 
-pub slice_bounds-write_model-end : goal.slice_bounds-write_model-end
-slice_bounds-write_model-end c =
-    let list-marked = c.list_marked-n in
-    list-marked.ensures.0 ∙ sym (ap length list-marked.ensures.1)
-
 pub slice_bounds-seats-end : goal.slice_bounds-seats-end
 slice_bounds-seats-end c =
     omega (arith, c.requires.elements_value.3, right-individuals c.args.b.now c.args.s c.requires.right, c.read_placement.auto)
 
-pub slice_bounds-write_model-end-2 : goal.slice_bounds-write_model-end-2
-slice_bounds-write_model-end-2 c =
+pub new-grader-requires : goal.new-grader-requires
+new-grader-requires c =
+    let e = sym c.terms_in.ensures in record {
+      terms_right = subst (λ (z : List ℕ). TermsRight z) e c.requires.right.terms_right;
+      terms_few = subst (λ (z : List ℕ). term_count z ≤ 64) e (omega (arith, right-terms c.args.b.now c.args.s c.requires.right, right-few c.args.b.now c.args.s c.requires.right));
+    }
+
+pub slice_bounds-listed-end-2 : goal.slice_bounds-listed-end-2
+slice_bounds-listed-end-2 c =
     sym (length-take-le c.args.p.individuals c.read_placement.new.seats
     (omega (arith, c.requires.elements_value.3, right-individuals c.args.b.now c.args.s c.requires.right, c.read_placement.auto)))
+
+pub invariant_of-listed : goal.invariant_of-listed
+invariant_of-listed c =
+    let list-marked = c.list_marked-n in
+    let few = right-individuals c.args.b.now c.args.s c.requires.right in
+    let lt = (ap length (list-marked.ensures.1 ∙ c.requires.count_bound.2) ∙ sym c.requires.elements_value.0) in
+    let li = length-take-le c.args.p.individuals c.read_placement.new.seats (omega (arith, c.requires.elements_value.3, few, c.read_placement.auto)) in record {
+      few = (
+        omega (arith, lt, c.requires.elements_bound.0),
+        omega (arith, li, c.requires.elements_value.3, few),
+        omega (arith, c.requires.elements_value.1, right-names c.args.b.now c.args.s c.requires.right),
+        omega (arith, c.requires.elements_value.2, right_roles c.args.b.now c.args.s c.requires.right),
+      );
+    }
 
 pub write_model-requires : goal.write_model-requires
 write_model-requires c =
@@ -52,22 +68,12 @@ write_model-requires c =
     let few = right-individuals c.args.b.now c.args.s c.requires.right in
     let lt = (ap length (list-marked.ensures.1 ∙ c.requires.count_bound.2) ∙ sym c.requires.elements_value.0) in
     let li = length-take-le c.args.p.individuals seats (omega (arith, c.requires.elements_value.3, few, c.read_placement.auto)) in
-    let e = sym c.terms_in.ensures in record {
-      terms_right = subst (λ (z : List ℕ). TermsRight z) e c.requires.right.terms_right;
-      types_len_bound = (
-        omega (arith, lt, c.requires.elements_bound.0),
-        subst (λ (z : List ℕ). term_count z ≤ 64) e (omega (arith, right-terms c.args.b.now c.args.s c.requires.right, right-few c.args.b.now c.args.s c.requires.right)),
-        omega (arith, c.requires.elements_value.1, right-names c.args.b.now c.args.s c.requires.right),
-        omega (arith, c.requires.elements_value.2, right_roles c.args.b.now c.args.s c.requires.right),
-        omega (arith, li, c.requires.elements_value.3, few),
-      );
-      seats_in_bounds = omega (
-        arith,
-        end_same c.args.s.steps c.logic_in.result [] c.args.p (take list-marked.result list-marked.new.types)
-            (take c.args.p.individuals seats) lt li,
-        c.requires.elements_bound.3,
-      );
-    }
+    omega (
+      arith,
+      end_same c.args.s.steps c.new-grader.result.logic c.new-grader.result.terms.now c.args.p
+          (take list-marked.result list-marked.new.types) (take c.args.p.individuals seats) lt li,
+      c.requires.elements_bound.3,
+    )
 
 pub returns : goal.returns
 returns c =
@@ -77,7 +83,7 @@ returns c =
     let seats = read-placement.new.seats in
     let lt = (ap length (list-marked.ensures.1 ∙ c.requires.count_bound.2) ∙ sym c.requires.elements_value.0) in
     let li = length-take-le c.args.p.individuals seats (omega (arith, c.requires.elements_value.3, right-individuals c.args.b.now c.args.s c.requires.right, read-placement.auto)) in
-    c.write_model.ensures
+    rw (c.new-grader.ensures.logic_is, c.new-grader.ensures.terms_are) at c.write_model.ensures
     ∙ ap₂ (λ (l : List ℕ) (n : ℕ). l ++ drop n c.args.sheet.now)
     (model_of_lem c.args.b.now c.args.s c.requires.right logic-in.result logic-in.ensures.s_value _ (take list-marked.result list-marked.new.types)
     (take c.args.p.individuals seats) c.args.p.names c.args.p.roles c.terms_in.ensures

@@ -1,9 +1,0 @@
--- `printout::put_newline` meets its contract.
--- Assumes nothing.
-use borrow.Author.Rules.{rules}
-use Rattle.printout.proofs.Lines.{newline-is}
-use Rattle.printout.proofs.Adding.{added_same}
-use Rattle.printout.proofs.put_newline.Goals as goal
-
-pub returns : goal.returns
-returns c = added_same newline-is c.put_byte.ensures
