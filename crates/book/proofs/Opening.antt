@@ -1,22 +1,25 @@
--- Laws of opening: which checks that were made give which answer, in their order.
+-- Laws of opening: which check is the first that says no, and what follows from it.
 -- Assumes nothing.
-use mathlib.Core.Path.{◌≡◌, refl, subst, ◌∙◌}
+use mathlib.Core.Path.{◌≡◌, refl, sym, ap, subst, ◌∙◌}
 use mathlib.Core.Option.{none, some}
 use mathlib.Core.List.{List}
 use Prim.Native.Nat.{ℕ, ◌≤◌}
 use native.Mathlib.Omega.{arith}
-use Rattle.chain.specs.Questions.{first_no}
-use Rattle.chain.proofs.Questions.{first_empty, first_yes, first_no_lem, first-none}
-use Rattle.chain.proofs.Answers.{answer-value, answer-refused, answer-number, answer_no, answer_yes, answer_alike}
+use Rattle.std.specs.Prelude.{Ok, Err}
+use Rattle.refusals.specs.Questions.{first_no}
+use Rattle.refusals.specs.Answers.{refusal_in}
+use Rattle.refusals.proofs.Questions.{first_empty, first_yes, first_no_lem, first-none}
+use Rattle.refusals.proofs.Answers.{checked-value, checked-refused, answer_refusal, answer_no, answer_yes}
+use Rattle.refusals.specs.declared.Refusal.{Refusal}
+use Rattle.refusals.specs.declared.Refusal.TheVariants as refusal
 use Rattle.sections.specs.Terms.{TermsRight}
 use Rattle.claims.specs.Rules.{RulesRight}
 use Rattle.claims.specs.Pairs.{PairsRight}
 use Rattle.claims.specs.Claims.{MembershipsRight, LinksRight}
 use Rattle.heads.specs.Heads.{steps, LengthRight, EditionRight, StepsRight, CountsRight}
 use Rattle.layout.specs.Layout.{sections_of, LaidOut, InOrder, term_bytes, rule_bytes, membership_bytes, link_bytes, pair_bytes, terms_in}
-use Rattle.book.specs.Opening.{body_questions, book_questions, Accepts, Right, opened_by, opened_of, opened_number}
+use Rattle.book.specs.Opening.{body_questions, book_questions, Accepts, Right, opened_of}
 use Rattle.layout.specs.declared.Sections.{Sections}
-use Rattle.book.specs.declared.Opened.TheVariants.{Refused, Accepted}
 
 -- ---- the bodies
 
@@ -36,54 +39,46 @@ module _ (b : List ℕ) (s : Sections) where
   abbrev Pairs : Type 0
   Pairs = PairsRight (pair_bytes b s)
 
-  pub body_6 : ¬ Terms → opened_by s (body_questions b s) ≡ Refused 6
-  body_6 n = answer-refused Refused _ (body_questions b s) _ (first_no_lem _ _ _ n)
+  pub body_6 : ¬ Terms → first_no (body_questions b s) ≡ some refusal.Terms
+  body_6 n = first_no_lem _ _ _ n
 
-  pub body_7 : Terms → ¬ Rules → opened_by s (body_questions b s) ≡ Refused 7
-  body_7 t n = answer-refused Refused _ (body_questions b s) _ (first_yes _ _ _ t ∙ first_no_lem _ _ _ n)
+  pub body_7 : Terms → ¬ Rules → first_no (body_questions b s) ≡ some refusal.Rules
+  body_7 t n = first_yes _ _ _ t ∙ first_no_lem _ _ _ n
 
-  pub body_8 : Terms → Rules → ¬ Memberships → opened_by s (body_questions b s) ≡ Refused 8
-  body_8 t r n = answer-refused Refused _ (body_questions b s) _ (first_yes _ _ _ t ∙ first_yes _ _ _ r ∙ first_no_lem _ _ _ n)
+  pub body_8 : Terms → Rules → ¬ Memberships → first_no (body_questions b s) ≡ some refusal.MembershipClaims
+  body_8 t r n = first_yes _ _ _ t ∙ first_yes _ _ _ r ∙ first_no_lem _ _ _ n
 
-  pub body_9 : Terms → Rules → Memberships → ¬ Links → opened_by s (body_questions b s) ≡ Refused 9
-  body_9 t r m n = answer-refused Refused _ (body_questions b s) _ (first_yes _ _ _ t ∙ first_yes _ _ _ r ∙ first_yes _ _ _ m ∙ first_no_lem _ _ _ n)
+  pub body_9 : Terms → Rules → Memberships → ¬ Links → first_no (body_questions b s) ≡ some refusal.LinkClaims
+  body_9 t r m n = first_yes _ _ _ t ∙ first_yes _ _ _ r ∙ first_yes _ _ _ m ∙ first_no_lem _ _ _ n
 
-  pub body_22 : Terms → Rules → Memberships → Links → ¬ Pairs → opened_by s (body_questions b s) ≡ Refused 22
-  body_22 t r m l n = answer-refused Refused _ (body_questions b s) _ (first_yes _ _ _ t ∙ first_yes _ _ _ r ∙ first_yes _ _ _ m ∙ first_yes _ _ _ l ∙ first_no_lem _ _ _ n)
+  pub body_22 : Terms → Rules → Memberships → Links → ¬ Pairs → first_no (body_questions b s) ≡ some refusal.Pairs
+  body_22 t r m l n = first_yes _ _ _ t ∙ first_yes _ _ _ r ∙ first_yes _ _ _ m ∙ first_yes _ _ _ l ∙ first_no_lem _ _ _ n
 
-  pub body_none : Terms → Rules → Memberships → Links → Pairs → opened_by s (body_questions b s) ≡ Accepted s
-  body_none t r m l p =
-      answer-value Refused _ (body_questions b s) (first_yes _ _ _ t ∙ first_yes _ _ _ r ∙ first_yes _ _ _ m ∙ first_yes _ _ _ l ∙ first_yes _ _ _ p ∙ first_empty)
+  pub body_none : Terms → Rules → Memberships → Links → Pairs → first_no (body_questions b s) ≡ none
+  body_none t r m l p = first_yes _ _ _ t ∙ first_yes _ _ _ r ∙ first_yes _ _ _ m ∙ first_yes _ _ _ l ∙ first_yes _ _ _ p ∙ first_empty
 
 -- ---- the head, and then the bodies
 
 module _ (b : List ℕ) where
-  pub head_1 : ¬ LengthRight b → opened_of b ≡ Refused 1
-  unfolding opened_of
-  head_1 n = answer-refused Refused _ (book_questions b) _ (first_no_lem _ _ _ n)
+  pub head_1 : ¬ LengthRight b → first_no (book_questions b) ≡ some refusal.BookLength
+  head_1 n = first_no_lem _ _ _ n
 
-  pub head_2 : LengthRight b → ¬ EditionRight b → opened_of b ≡ Refused 2
-  unfolding opened_of
-  head_2 l n = answer-refused Refused _ (book_questions b) _ (first_yes _ _ _ l ∙ first_no_lem _ _ _ n)
+  pub head_2 : LengthRight b → ¬ EditionRight b → first_no (book_questions b) ≡ some refusal.Edition
+  head_2 l n = first_yes _ _ _ l ∙ first_no_lem _ _ _ n
 
-  pub head_3 : LengthRight b → EditionRight b → ¬ StepsRight b → opened_of b ≡ Refused 3
-  unfolding opened_of
-  head_3 l e n = answer-refused Refused _ (book_questions b) _ (first_yes _ _ _ l ∙ first_yes _ _ _ e ∙ first_no_lem _ _ _ n)
+  pub head_3 : LengthRight b → EditionRight b → ¬ StepsRight b → first_no (book_questions b) ≡ some refusal.Steps
+  head_3 l e n = first_yes _ _ _ l ∙ first_yes _ _ _ e ∙ first_no_lem _ _ _ n
 
-  pub head_4 : LengthRight b → EditionRight b → StepsRight b → ¬ CountsRight b → opened_of b ≡ Refused 4
-  unfolding opened_of
-  head_4 l e p n = answer-refused Refused _ (book_questions b) _ (first_yes _ _ _ l ∙ first_yes _ _ _ e ∙ first_yes _ _ _ p ∙ first_no_lem _ _ _ n)
+  pub head_4 : LengthRight b → EditionRight b → StepsRight b → ¬ CountsRight b → first_no (book_questions b) ≡ some refusal.Counts
+  head_4 l e p n = first_yes _ _ _ l ∙ first_yes _ _ _ e ∙ first_yes _ _ _ p ∙ first_no_lem _ _ _ n
 
-  pub head_5 : LengthRight b → EditionRight b → StepsRight b → CountsRight b → ¬ LaidOut b (sections_of b) → opened_of b ≡ Refused 5
-  unfolding opened_of
-  head_5 l e p k n = answer-refused Refused _ (book_questions b) _ (first_yes _ _ _ l ∙ first_yes _ _ _ e ∙ first_yes _ _ _ p ∙ first_yes _ _ _ k ∙ first_no_lem _ _ _ n)
+  pub head_5 : LengthRight b → EditionRight b → StepsRight b → CountsRight b → ¬ LaidOut b (sections_of b)
+      → first_no (book_questions b) ≡ some refusal.Layout
+  head_5 l e p k n = first_yes _ _ _ l ∙ first_yes _ _ _ e ∙ first_yes _ _ _ p ∙ first_yes _ _ _ k ∙ first_no_lem _ _ _ n
 
   pub head-none : LengthRight b → EditionRight b → StepsRight b → CountsRight b → LaidOut b (sections_of b)
-      → opened_of b ≡ opened_by (sections_of b) (body_questions b (sections_of b))
-  unfolding opened_of
-  head-none l e p k o =
-      answer_alike Refused _ _ (book_questions b) (body_questions b (sections_of b))
-      (first_yes _ _ _ l ∙ first_yes _ _ _ e ∙ first_yes _ _ _ p ∙ first_yes _ _ _ k ∙ first_yes _ _ _ o) (λ _. refl)
+      → first_no (book_questions b) ≡ first_no (body_questions b (sections_of b))
+  head-none l e p k o = first_yes _ _ _ l ∙ first_yes _ _ _ e ∙ first_yes _ _ _ p ∙ first_yes _ _ _ k ∙ first_yes _ _ _ o
 
   -- where the layout is right, the sections follow one another up to the end
   pub sections_ordered : LaidOut b (sections_of b) → InOrder b (sections_of b)
@@ -128,22 +123,30 @@ module _ (b : List ℕ) where
         pairs_right = q22.0;
       }
 
-  -- ---- the answer's number is the first no
+  -- ---- the answer, by the first no
 
-  pub opened_number-is : opened_number (opened_of b) ≡ first_no (book_questions b)
+  pub opened_no : (r : Refusal) → first_no (book_questions b) ≡ some r → (opened_of b ≡ Err r) × (some r ≡ first_no (book_questions b))
   unfolding opened_of
-  opened_number-is = answer-number Refused _ (book_questions b) opened_number (λ n. refl) refl
+  opened_no r e = (checked-refused Err _ (book_questions b) r e, sym e)
 
-  pub opened_refused : (n : ℕ) → opened_of b ≡ Refused n → first_no (book_questions b) ≡ some n
+  pub opened_none : first_no (book_questions b) ≡ none → opened_of b ≡ Ok (sections_of b)
   unfolding opened_of
-  opened_refused = answer_no Refused _ (book_questions b) opened_number (λ n. refl) refl
+  opened_none = checked-value Err _ (book_questions b)
 
-  pub opened_accepted : (s : Sections) → opened_of b ≡ Accepted s → Right b s
+  -- and back: its refusal is the first no
+  pub opened_refusal : refusal_in (opened_of b) ≡ first_no (book_questions b)
+  unfolding opened_of
+  opened_refusal = answer_refusal _ (book_questions b)
+
+  pub opened_refused : (r : Refusal) → opened_of b ≡ Err r → first_no (book_questions b) ≡ some r
+  unfolding opened_of
+  opened_refused = answer_no _ (book_questions b)
+
+  pub opened_accepted : (s : Sections) → opened_of b ≡ Ok s → Right b s
   unfolding opened_of
   opened_accepted s e =
-      let u = answer_yes Refused _ (book_questions b) opened_number (λ n. refl) refl (Accepted s) refl e in
-      let f : sections_of b ≡ s = cc in
-      subst (Right b) f (accepts_right (accepts_is u.0))
+      let u = answer_yes _ (book_questions b) s e in
+      subst (Right b) u.1 (accepts_right (accepts_is u.0))
 
 -- ---- what later calls take from an accepted book
 
@@ -163,3 +166,17 @@ module _ (b : List ℕ) (s : Sections) (ok : Right b s) where
       ∙ subst (λ (t : Sections). first_no (body_questions b t) ≡ none) e
       (first_yes _ _ _ ok.terms_right ∙ first_yes _ _ _ ok.rules_right ∙ first_yes _ _ _ ok.memberships_right ∙ first_yes _ _ _ ok.links_right
       ∙ first_yes _ _ _ ok.pairs_right ∙ first_empty)
+
+-- ---- what the methods of an opened book take from its opening
+
+module _ (b : List ℕ) (s : Sections) (e : opened_of b ≡ Ok s) where
+  pub opened_ordered : InOrder b s
+  opened_ordered = right-ordered b s (opened_accepted b s e)
+
+  pub opened_counted : s.terms ≤ s.rules
+  opened_counted = omega (arith, opened_ordered.0)
+
+-- sections that passed every check are what opening gives
+pub opened_right : (b : List ℕ) (s : Sections) → Right b s → opened_of b ≡ Ok s
+unfolding Accepts
+opened_right b s ok = opened_none b (right_accepts b s ok) ∙ ap Ok (sym ok.sections_are)

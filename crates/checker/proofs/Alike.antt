@@ -8,9 +8,11 @@ use mathlib.Core.List.{List, [], ◌∷◌, ◌++◌}
 use Prim.Native.Nat.{ℕ, ◌*◌}
 use native.Mathlib.Decide.{dec_le}
 use lib.ListN.{length, drop}
-use Rattle.chain.specs.Questions.{Question, ask, first_no}
-use Rattle.chain.proofs.Questions.{first-none-append}
-use Rattle.chain.proofs.Answers.{answer_alike}
+use Rattle.std.specs.Prelude.{Ok}
+use Rattle.refusals.specs.Questions.{Question, ask, first_no}
+use Rattle.refusals.specs.declared.Refusal.TheVariants as refusal
+use Rattle.refusals.proofs.Questions.{first-none-append}
+use Rattle.refusals.proofs.Answers.{checked_alike}
 use Rattle.semantics.specs.Interpretations.{Grading, Interpretation}
 use Rattle.semantics.specs.Books.{Book, name_count, role_count, individuals}
 use Rattle.semantics.proofs.Claims.{written, written-individuals, written_meets}
@@ -24,7 +26,6 @@ use Rattle.shapes.specs.Layout.{shape_of}
 use Rattle.sheets.specs.Reading.{sheet_of}
 use Rattle.sheets.specs.Opening.{sheet_questions}
 use Rattle.checker.specs.Working.{grid_by, grid_size, work_questions, worked_of, grid_after}
-use Rattle.checker.specs.declared.Worked.TheVariants.{Says}
 use Rattle.checker.proofs.Working.{worked_met}
 
 -- what the questions of working out go by
@@ -60,7 +61,7 @@ module _ (b c : List ℕ) (ok : Accepts b) (also : Accepts c) (same : SameCounts
 
   -- 13 to 16, by the terms and the counts
   abbrev then : Grading → (A R I g : ℕ) → List Question
-  then G A R I g = sheet_questions t (shape_of t) G.steps A R I ++ (ask 16 (dec_le ((shape_of t).elements * length G.terms) g) ∷ [])
+  then G A R I g = sheet_questions t (shape_of t) G.steps A R I ++ (ask refusal.Grid (dec_le ((shape_of t).elements * length G.terms) g) ∷ [])
 
   questions_alike : (g : ℕ) → first_no (work_questions b t g) ≡ first_no (work_questions c t g)
   unfolding Accepts grid_size
@@ -75,11 +76,11 @@ module _ (b c : List ℕ) (ok : Accepts b) (also : Accepts c) (same : SameCounts
   pub grid_alike : (grid : List ℕ) → grid_after b t grid ≡ grid_after c t grid
   unfolding grid_by
   grid_alike grid =
-      answer_alike (λ _. grid) _ _ (work_questions b t (length grid)) (work_questions c t (length grid)) (questions_alike (length grid))
+      checked_alike (λ _. grid) _ _ (work_questions b t (length grid)) (work_questions c t (length grid)) (questions_alike (length grid))
       (λ _. ap (λ (G : Grading). grid_of G (sheet_of t) ++ drop ((sheet_of t).size * length G.terms) grid) same.grading_same)
 
   pub meets_alike : ((I : Interpretation) → (verdict_of (book_of b) I ≡ Meets) ↔ (verdict_of (book_of c) I ≡ Meets))
-      → (g : ℕ) → (worked_of b t g ≡ Says Meets) ↔ (worked_of c t g ≡ Says Meets)
+      → (g : ℕ) → (worked_of b t g ≡ Ok Meets) ↔ (worked_of c t g ≡ Ok Meets)
   meets_alike meet g = (
     λ e. let u = (worked_met B I (work_questions b t g)).0 e in (worked_met C I (work_questions c t g)).1 (sym (questions_alike g) ∙ u.0, (meet I).0 u.1),
     λ e. let u = (worked_met C I (work_questions c t g)).0 e in (worked_met B I (work_questions b t g)).1 (questions_alike g ∙ u.0, (meet I).1 u.1),

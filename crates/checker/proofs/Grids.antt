@@ -10,23 +10,25 @@ use native.Mathlib.Nat.{mul-suc, mul_comm, mul-le-mul_left}
 use native.Mathlib.Omega.{arith}
 use lib.ListN.{length, get_or, drop, get_or-append}
 use lib.Seq.{drop_at}
-use Rattle.chain.specs.Questions.{first_no}
-use Rattle.chain.proofs.Questions.{first-both}
+use Rattle.std.specs.Prelude.{Ok, Err}
+use Rattle.refusals.specs.Questions.{first_no}
+use Rattle.refusals.specs.declared.Refusal.{Refusal}
+use Rattle.refusals.proofs.Questions.{first-both}
+use Rattle.refusals.proofs.Answers.{answer_no}
 use Rattle.chain.proofs.Lists.{length-table, get_or-table}
 use Rattle.semantics.specs.Interpretations.{Grading, Interpretation, OnChain, grade_at}
 use Rattle.book.specs.Opening.{Accepts, book_questions}
 use Rattle.book.specs.Reading.{book_of}
 use Rattle.working.specs.Grids.{grades_at, grid_of}
-use Rattle.working.specs.Working.{verdict_of, Says}
+use Rattle.working.specs.Working.{Says}
 use Rattle.working.specs.declared.Verdict.{Verdict}
 use Rattle.working.proofs.Working.{verdict_says}
 use Rattle.sheets.specs.Reading.{sheet_of}
 use Rattle.sheets.proofs.Opening.{none_right}
 use Rattle.sheets.proofs.Reading.{sheet_on_chain}
 use Rattle.chain.proofs.Blocks.{length_blocks, at_rows}
-use Rattle.checker.specs.Working.{grid_size, book_sheet_questions, work_questions, worked_of, grid_after, worked_number}
-use Rattle.checker.specs.declared.Worked.TheVariants.{Refused, Says as Answers}
-use Rattle.checker.proofs.Working.{worked_says, grid_worked, grid_refused, worked_number-is}
+use Rattle.checker.specs.Working.{grid_size, book_sheet_questions, work_questions, worked_by, worked_of, grid_after}
+use Rattle.checker.proofs.Working.{worked_says, worked_verdict, grid_worked, grid_refused}
 
 module _ (b t grid : List ℕ) (ok : first_no (work_questions b t (length grid)) ≡ none) where
   abbrev G : Grading
@@ -73,17 +75,9 @@ module _ (b t grid : List ℕ) (ok : first_no (work_questions b t (length grid))
   pub grid_kept : drop (grid_size b t) (grid_after b t grid) ≡ drop (grid_size b t) grid
   grid_kept = rw (grid_worked b t grid ok) (drop_at (grid_of G I) (drop (grid_size b t) grid) (grid_size b t) (length_grid ∙ sym size_is))
 
-  pub answered : (v : Verdict) → (worked_of b t (length grid) ≡ Answers v) ↔ Says (book_of b) I v
-  answered v = Iff.trans (to, from) (verdict_says (book_of b) I v)
-    where
-      is : worked_of b t (length grid) ≡ Answers (verdict_of (book_of b) I)
-      is = worked_says (book_of b) (sheet_of t) _ ok
+  pub answered : (v : Verdict) → (worked_of b t (length grid) ≡ Ok v) ↔ Says (book_of b) I v
+  answered v = Iff.trans (worked_verdict (book_of b) I _ v, λ e. worked_says (book_of b) I _ ok ∙ ap Ok e) (verdict_says (book_of b) I v)
 
-      to : worked_of b t (length grid) ≡ Answers v → verdict_of (book_of b) I ≡ v
-      to e = let z : Answers (verdict_of (book_of b) I) ≡ Answers v = sym is ∙ e in cc
-
-      from : verdict_of (book_of b) I ≡ v → worked_of b t (length grid) ≡ Answers v
-      from e = is ∙ ap Answers e
-
-pub work_refused : (b t grid : List ℕ) (n : ℕ) → worked_of b t (length grid) ≡ Refused n → grid_after b t grid ≡ grid
-work_refused b t grid n e = grid_refused _ _ _ grid n (sym (worked_number-is _ _ _) ∙ ap worked_number e)
+pub work_refused : (b t grid : List ℕ) (r : Refusal) → worked_of b t (length grid) ≡ Err r → grid_after b t grid ≡ grid
+unfolding worked_by
+work_refused b t grid r e = grid_refused _ _ _ grid r (answer_no _ _ r e)

@@ -1,7 +1,7 @@
 -- Laws of working out a sheet: which checks that were made give which answer and grid; and what a sheet that fits an accepted book gives the
 -- code that works it out.
 -- Assumes nothing.
-use mathlib.Core.Path.{◌≡◌, refl, sym, ap, ap₂, subst, ◌∙◌}
+use mathlib.Core.Path.{◌≡◌, sym, ap, ap₂, subst, ◌∙◌}
 use mathlib.Core.Logic.{◌↔◌}
 use mathlib.Core.Option.{none, some}
 use mathlib.Core.List.{List, [], ◌++◌}
@@ -10,9 +10,13 @@ use native.Mathlib.Nat.{mul-le-mul}
 use native.Mathlib.Decide.{dec_le}
 use native.Mathlib.Omega.{arith}
 use lib.ListN.{length, drop}
-use Rattle.chain.specs.Questions.{Question, first_no}
-use Rattle.chain.proofs.Questions.{first_empty, first_yes, first_no_lem, first-some-append, first-none-append}
-use Rattle.chain.proofs.Answers.{answer-value, answer-refused, answer-number, answer_yes}
+use Rattle.std.specs.Prelude.{Result, Ok, Err}
+use Rattle.refusals.specs.Questions.{Question, first_no}
+use Rattle.refusals.specs.Answers.{refusal_in}
+use Rattle.refusals.specs.declared.Refusal.{Refusal}
+use Rattle.refusals.specs.declared.Refusal.TheVariants as refusal
+use Rattle.refusals.proofs.Questions.{first_empty, first_yes, first_no_lem, first-some-append, first-none-append}
+use Rattle.refusals.proofs.Answers.{checked-value, checked-refused, answer_refusal, answer_yes}
 use Rattle.semantics.specs.Interpretations.{Grading, Interpretation}
 use Rattle.semantics.specs.Books.{Book, name_count, role_count, individuals}
 use Rattle.sections.specs.Terms.{terms_of}
@@ -23,18 +27,16 @@ use Rattle.book.specs.Reading.{book_at, book_of, counts_of}
 use Rattle.book.specs.Opening.{book_questions, Accepts, Right, opened_of}
 use Rattle.layout.specs.declared.Sections.{Sections}
 use Rattle.book.specs.declared.Counts.{Counts}
-use Rattle.book.specs.declared.Opened.TheVariants.{Refused as Closed}
 use Rattle.book.proofs.Opening.{opened_refused, right_accepts}
 use Rattle.book.proofs.Reading.{right-book, right-few, right_short, right-length, right_counts, right_valid}
 use Rattle.working.specs.Grids.{grid_of}
 use Rattle.working.specs.Working.{verdict_of}
+use Rattle.working.specs.declared.Verdict.{Verdict}
 use Rattle.working.specs.declared.Verdict.TheVariants.{Meets}
 use Rattle.shapes.specs.Layout.{EntriesRight, name_bytes, link_bytes as sheetLinks, individual_bytes}
 use Rattle.sheets.specs.Reading.{sheet_of}
 use Rattle.sheets.specs.Opening.{sheet_opened}
 use Rattle.shapes.specs.declared.Shape.{Shape}
-use Rattle.sheets.specs.declared.Sheet.{Sheet}
-use Rattle.sheets.specs.declared.Sheet.TheVariants.{Refused as Unfit, Accepted as Fits}
 use Rattle.sheets.proofs.Opening.{opened_right, opened_refused as sheet-refused, right-none, length-names, length-links, length-individuals}
 use Rattle.sheets.proofs.Reading.{everywhere, sheet-is}
 use Rattle.columns.specs.Columns.{rows_of}
@@ -44,67 +46,67 @@ use Rattle.columns.proofs.Rows.{rows_grid}
 use Rattle.verdicts.specs.Verdicts.{verdict_in, Covered}
 use Rattle.verdicts.proofs.Verdicts.{verdict_in_lem, covered}
 use Rattle.checker.specs.Fitting.{SheetFits, Filled}
-use Rattle.checker.specs.Working.{worked_by, grid_by, grid_size, book_sheet_questions, work_questions, grid_after, worked_number}
-use Rattle.checker.specs.declared.Worked.TheVariants.{Refused, Says}
+use Rattle.checker.specs.Working.{worked_by, grid_by, grid_size, book_sheet_questions, work_questions, grid_after}
 
 -- ---- the first no
 
 module _ (b t : List ℕ) where
-  pub work_book : (g n : ℕ) → opened_of b ≡ Closed n → first_no (work_questions b t g) ≡ some n
-  work_book g n e = first-some-append (book_questions b) _ n (opened_refused b n e)
+  pub work_book : (g : ℕ) (r : Refusal) → opened_of b ≡ Err r → first_no (work_questions b t g) ≡ some r
+  work_book g r e = first-some-append (book_questions b) _ r (opened_refused b r e)
 
   module _ (s : Sections) (ok : Right b s) where
     accepted : first_no (book_questions b) ≡ none
     unfolding Accepts
     accepted = right_accepts b s ok
 
-    pub work_sheet : (g n : ℕ) → first_no (book_sheet_questions b t) ≡ some n → first_no (work_questions b t g) ≡ some n
-    work_sheet g n e = first-none-append (book_questions b) _ accepted ∙ first-some-append (book_sheet_questions b t) _ n e
+    pub work_sheet : (g : ℕ) (r : Refusal) → first_no (book_sheet_questions b t) ≡ some r → first_no (work_questions b t g) ≡ some r
+    work_sheet g r e = first-none-append (book_questions b) _ accepted ∙ first-some-append (book_sheet_questions b t) _ r e
 
     module _ (p : Shape) (fits : SheetFits b t p) where
-      pub work_16 : (g : ℕ) → ¬ (grid_size b t ≤ g) → first_no (work_questions b t g) ≡ some 16
+      pub work_16 : (g : ℕ) → ¬ (grid_size b t ≤ g) → first_no (work_questions b t g) ≡ some refusal.Grid
       work_16 g n =
           first-none-append (book_questions b) _ accepted ∙ first-none-append (book_sheet_questions b t) _ (right-none t p _ _ _ _ fits)
-          ∙ first_no_lem 16 (dec_le (grid_size b t) g) [] n
+          ∙ first_no_lem refusal.Grid (dec_le (grid_size b t) g) [] n
 
       pub work_none : (g : ℕ) → grid_size b t ≤ g → first_no (work_questions b t g) ≡ none
       work_none g h =
           first-none-append (book_questions b) _ accepted ∙ first-none-append (book_sheet_questions b t) _ (right-none t p _ _ _ _ fits)
-          ∙ first_yes 16 (dec_le (grid_size b t) g) [] h ∙ first_empty
+          ∙ first_yes refusal.Grid (dec_le (grid_size b t) g) [] h ∙ first_empty
 
 -- ---- the answer and the grid, by it
 
 module _ (B : Book) (I : Interpretation) (qs : List Question) where
-  pub worked_says : first_no qs ≡ none → worked_by B I qs ≡ Says (verdict_of B I)
+  pub worked_says : first_no qs ≡ none → worked_by B I qs ≡ Ok (verdict_of B I)
   unfolding worked_by
-  worked_says = answer-value Refused _ qs
+  worked_says = checked-value Err _ qs
 
   -- "meets": no question says no, and that is the verdict
-  pub worked_met : (worked_by B I qs ≡ Says Meets) ↔ ((first_no qs ≡ none) × (verdict_of B I ≡ Meets))
+  pub worked_met : (worked_by B I qs ≡ Ok Meets) ↔ ((first_no qs ≡ none) × (verdict_of B I ≡ Meets))
   unfolding worked_by
-  worked_met = (
-    λ e. let u = answer_yes Refused _ qs worked_number (λ n. refl) refl (Says Meets) refl e in (u.0, cc),
-    λ u. answer-value Refused _ qs u.0 ∙ ap Says u.1,
-  )
+  worked_met = (answer_yes (verdict_of B I) qs Meets, λ u. checked-value Err _ qs u.0 ∙ ap Ok u.1)
 
-  -- the answer's number is the first no
-  pub worked_number-is : worked_number (worked_by B I qs) ≡ first_no qs
+  pub worked_verdict : (v : Verdict) → worked_by B I qs ≡ Ok v → verdict_of B I ≡ v
   unfolding worked_by
-  worked_number-is = answer-number Refused _ qs worked_number (λ n. refl) refl
+  worked_verdict v e = (answer_yes (verdict_of B I) qs v e).1
+
+  -- the answer's refusal is the first no
+  pub worked_refusal : refusal_in (worked_by B I qs) ≡ first_no qs
+  unfolding worked_by
+  worked_refusal = answer_refusal (verdict_of B I) qs
 
   module _ (grid : List ℕ) where
-    pub grid_refused : (n : ℕ) → first_no qs ≡ some n → grid_by B I qs grid ≡ grid
+    pub grid_refused : (r : Refusal) → first_no qs ≡ some r → grid_by B I qs grid ≡ grid
     unfolding grid_by
-    grid_refused = answer-refused (λ _. grid) _ qs
+    grid_refused = checked-refused (λ _. grid) _ qs
 
     -- what a refusal answers, and that it keeps the grid
-    pub refused : (n : ℕ) → first_no qs ≡ some n → (Refused n ≡ worked_by B I qs) × (grid ≡ grid_by B I qs grid)
+    pub refused : (r : Refusal) → first_no qs ≡ some r → (Err r ≡ worked_by B I qs) × (grid ≡ grid_by B I qs grid)
     unfolding worked_by
-    refused n e = (sym (answer-refused Refused _ qs n e), sym (grid_refused n e))
+    refused r e = (sym (checked-refused Err _ qs r e), sym (grid_refused r e))
 
     pub grid_filled : first_no qs ≡ none → grid_by B I qs grid ≡ grid_of B.grading I ++ drop (I.size * length B.grading.terms) grid
     unfolding grid_by
-    grid_filled = answer-value (λ _. grid) _ qs
+    grid_filled = checked-value (λ _. grid) _ qs
 
 pub grid_worked : (b t grid : List ℕ) → first_no (work_questions b t (length grid)) ≡ none
     → grid_after b t grid ≡ grid_of (book_of b).grading (sheet_of t) ++ drop (grid_size b t) grid
@@ -172,13 +174,13 @@ module _ (b t : List ℕ) (s : Sections) (ok : Right b s) (p : Shape) (fits : Sh
 
 -- ---- what checking the sheet answers, by the counts that code made
 
-module _ (b t : List ℕ) (s : Sections) (ok : Right b s) (k : Counts) (are : k ≡ counts_of (book_of b)) (o : Sheet)
+module _ (b t : List ℕ) (s : Sections) (ok : Right b s) (k : Counts) (are : k ≡ counts_of (book_of b)) (o : Result Shape Refusal)
     (is : o ≡ sheet_opened t s.steps k.names k.roles k.individuals) where
   opened_is : o ≡ sheet_opened t (book_of b).grading.steps (name_count (book_of b)) (role_count (book_of b)) (individuals (book_of b))
   opened_is = is ∙ rw (are, (right_counts b s ok).0)
 
-  pub sheet-fits : (p : Shape) → o ≡ Fits p → SheetFits b t p
+  pub sheet-fits : (p : Shape) → o ≡ Ok p → SheetFits b t p
   sheet-fits p e = opened_right t _ _ _ _ p (sym opened_is ∙ e)
 
-  pub sheet-asked : (n : ℕ) → o ≡ Unfit n → first_no (book_sheet_questions b t) ≡ some n
-  sheet-asked n e = sheet-refused t _ _ _ _ n (sym opened_is ∙ e)
+  pub sheet-asked : (r : Refusal) → o ≡ Err r → first_no (book_sheet_questions b t) ≡ some r
+  sheet-asked r e = sheet-refused t _ _ _ _ r (sym opened_is ∙ e)

@@ -1,135 +1,119 @@
-// Working out a sheet: the entry point, which takes a book's bytes as they come and refuses with the number of the first check that says no; and
-// beside it the same on the bytes and sections of a book that is opened.
+// Working out a sheet: the entry point, which takes a book's bytes as they come and refuses with the first check that says no; and beside it the
+// same on a book that is opened.
 
 #![tactic(auto)]
 
 ghost use Rattle.std.specs.Prelude.{◌≡◌, ◌++◌, ◌≤◌, length, drop};
-ghost use Rattle.chain.specs.Questions.{first_no};
-ghost use Rattle.book.specs.Opening.{Right};
+ghost use Rattle.refusals.specs.Questions.{first_no};
+ghost use Rattle.refusals.specs.Answers.{refusal_in};
 ghost use Rattle.book.specs.Reading.{book_of};
 ghost use Rattle.working.specs.Grids.{grid_of};
 ghost use Rattle.working.specs.Working.{verdict_of};
 ghost use Rattle.sheets.specs.Reading.{sheet_of};
-ghost use Rattle.checker.specs.Working.{grid_size, worked_of, grid_after, work_questions, worked_number};
+ghost use Rattle.checker.specs.Working.{grid_size, worked_of, grid_after, work_questions};
 ghost use Rattle.checker.specs.Fitting.{SheetFits, Filled};
 
-use book::Opened;
+use book::Book;
 use cells::Frame;
 use columns::Columns;
 use grids::Source;
-use layout::Sections;
+use refusals::Refusal;
 use shapes::Shape;
-use sheets::Sheet;
 use working::Verdict;
 
-// The number of the first check that says no, or the verdict on the book's rules, pairs and claims.
+// A sheet that fits an accepted book.
 #[derive(Clone, Copy)]
-pub enum Worked {
-    Refused(u8),
-    Says(Verdict),
+struct Fitting<'a> {
+    book: Book<'a>,
+    sheet: &'a [u8],
+    shape: Shape,
+    ghost fits: { SheetFits book.bytes.now sheet.now shape },
 }
 
-// The grades of all terms at all elements.
-fn fill_columns(b: &[u8], s: Sections, sheet: &[u8], p: Shape, columns: &mut Columns)
-    requires right { Right b.now s }
-    requires sheet_fits { SheetFits b.now sheet.now p }
-    ensures { Filled b.now sheet.now columns.new }
-{
-    let links = shapes::links_at(p);
-    let individuals = shapes::individuals_at(p);
-    let source = Source {
-        terms: layout::terms_in(b, s),
-        logic: book::logic_in(b, s),
-        elements: p.elements,
-        names: p.names,
-        roles: p.roles,
-        name_grades: &sheet[12..links],
-        links: &sheet[links..individuals],
-    };
-    source.work_out(columns);
-}
-
-// The verdict, by the grades in the columns.
-fn verdict_by(b: &[u8], s: Sections, sheet: &[u8], p: Shape, columns: &Columns) -> Verdict
-    requires right { Right b.now s }
-    requires sheet_fits { SheetFits b.now sheet.now p }
-    requires filled { Filled b.now sheet.now columns.now }
-    ensures { result ≡ verdict_of (book_of b.now) (sheet_of sheet.now) }
-{
-    let links = shapes::links_at(p);
-    let individuals = shapes::individuals_at(p);
-    let end = shapes::end_at(p);
-    let frame = Frame {
-        elements: p.elements,
-        links: &sheet[links..individuals],
-        individuals: &sheet[individuals..end],
-    };
-    verdicts::verdict(
-        layout::rules_in(b, s),
-        layout::pairs_in(b, s),
-        layout::memberships_in(b, s),
-        layout::links_in(b, s),
-        columns,
-        &frame,
-    )
-}
-
-// On a sheet that fits an accepted book, with room in the grid.
-fn work_fitting(
-    b: &[u8],
-    s: Sections,
-    sheet: &[u8],
-    p: Shape,
-    columns: &mut Columns,
-    grid: &mut [u8],
-) -> Verdict
-    requires right { Right b.now s }
-    requires sheet_fits { SheetFits b.now sheet.now p }
-    requires in_bounds { grid_size b.now sheet.now ≤ length grid.old }
-    ensures value { result ≡ verdict_of (book_of b.now) (sheet_of sheet.now) }
-    ensures grid_after { grid.new ≡ grid_of (book_of b.now).grading (sheet_of sheet.now) ++ drop (grid_size b.now sheet.now) grid.old }
-{
-    fill_columns(b, s, sheet, p, columns);
-    grid_rows::write_grid(columns, layout::count_terms(s), p.elements, grid);
-    verdict_by(b, s, sheet, p, columns)
-}
-
-fn work_shaped(b: &[u8], s: Sections, sheet: &[u8], p: Shape, grid: &mut [u8]) -> Worked
-    requires right { Right b.now s }
-    requires sheet_fits { SheetFits b.now sheet.now p }
-    ensures value { result ≡ worked_of b.now sheet.now (length grid.old) }
-    ensures grid_after { grid.new ≡ grid_after b.now sheet.now grid.old }
-{
-    if grid.len() < p.elements * layout::count_terms(s) {
-        return Worked::Refused(16);
+impl Fitting<'_> {
+    // The grades of all terms at all elements.
+    fn fill_columns(&self, columns: &mut Columns)
+        ensures { Filled self.now.book.bytes.now self.now.sheet.now columns.new }
+    {
+        let p = self.shape;
+        let links = shapes::links_at(p);
+        let individuals = shapes::individuals_at(p);
+        let source = Source {
+            terms: self.book.terms(),
+            logic: self.book.logic(),
+            elements: p.elements,
+            names: p.names,
+            roles: p.roles,
+            name_grades: &self.sheet[12..links],
+            links: &self.sheet[links..individuals],
+        };
+        source.work_out(columns);
     }
-    let mut columns = Columns {
-        cells: [[0; 64]; 64],
-    };
-    Worked::Says(work_fitting(b, s, sheet, p, &mut columns, grid))
+
+    // The verdict, by the grades in the columns.
+    fn verdict_by(&self, columns: &Columns) -> Verdict
+        requires { Filled self.now.book.bytes.now self.now.sheet.now columns.now }
+        ensures { result ≡ verdict_of (book_of self.now.book.bytes.now) (sheet_of self.now.sheet.now) }
+    {
+        let p = self.shape;
+        let links = shapes::links_at(p);
+        let individuals = shapes::individuals_at(p);
+        let end = shapes::end_at(p);
+        let frame = Frame {
+            elements: p.elements,
+            links: &self.sheet[links..individuals],
+            individuals: &self.sheet[individuals..end],
+        };
+        verdicts::verdict(
+            self.book.rules(),
+            self.book.pairs(),
+            self.book.memberships(),
+            self.book.links(),
+            columns,
+            &frame,
+        )
+    }
+
+    // With room in the grid.
+    fn work_fitting(&self, columns: &mut Columns, grid: &mut [u8]) -> Verdict
+        requires { grid_size self.now.book.bytes.now self.now.sheet.now ≤ length grid.old }
+        ensures value { result ≡ verdict_of (book_of self.now.book.bytes.now) (sheet_of self.now.sheet.now) }
+        ensures grid_after { grid.new ≡ grid_of (book_of self.now.book.bytes.now).grading (sheet_of self.now.sheet.now) ++ drop (grid_size self.now.book.bytes.now self.now.sheet.now) grid.old }
+    {
+        self.fill_columns(columns);
+        grid_rows::write_grid(columns, self.book.count_terms(), self.shape.elements, grid);
+        self.verdict_by(columns)
+    }
+
+    fn work_shaped(&self, grid: &mut [u8]) -> Result<Verdict, Refusal>
+        ensures value { result ≡ worked_of self.now.book.bytes.now self.now.sheet.now (length grid.old) }
+        ensures grid_after { grid.new ≡ grid_after self.now.book.bytes.now self.now.sheet.now grid.old }
+    {
+        if grid.len() < self.shape.elements * self.book.count_terms() {
+            return Err(Refusal::Grid);
+        }
+        let mut columns = Columns {
+            cells: [[0; 64]; 64],
+        };
+        Ok(self.work_fitting(&mut columns, grid))
+    }
 }
 
-// On an accepted book whose sections are `s`: no check of the book is made.
-pub fn work_in(b: &[u8], s: Sections, sheet: &[u8], grid: &mut [u8]) -> Worked
-    requires { Right b.now s }
-    ensures value { result ≡ worked_of b.now sheet.now (length grid.old) }
-    ensures grid_after { grid.new ≡ grid_after b.now sheet.now grid.old }
+// On an accepted book: no check of the book is made.
+pub fn work_in(book: Book<'_>, sheet: &[u8], grid: &mut [u8]) -> Result<Verdict, Refusal>
+    ensures value { result ≡ worked_of book.entry.bytes.now sheet.now (length grid.old) }
+    ensures grid_after { grid.new ≡ grid_after book.entry.bytes.now sheet.now grid.old }
 {
-    let k = book::counts_in(b, s);
-    match sheets::open_sheet(sheet, s.steps, k.names, k.roles, k.individuals) {
-        Sheet::Refused(n) => Worked::Refused(n),
-        Sheet::Accepted(p) => work_shaped(b, s, sheet, p, grid),
-    }
+    let shape = sheets::open_sheet(sheet, book.sections.steps, book.counts())?;
+    let fitting = Fitting { book, sheet, shape };
+    fitting.work_shaped(grid)
 }
 
 // Works out a sheet on a book: the grid takes each element's row of term grades, and the verdict comes back.
-pub fn work_out(b: &[u8], sheet: &[u8], grid: &mut [u8]) -> Worked
+pub fn work_out(b: &[u8], sheet: &[u8], grid: &mut [u8]) -> Result<Verdict, Refusal>
     ensures value { result ≡ worked_of b.now sheet.now (length grid.old) }
-    ensures result_value { worked_number result ≡ first_no (work_questions b.now sheet.now (length grid.old)) }
+    ensures refused { refusal_in result ≡ first_no (work_questions b.now sheet.now (length grid.old)) }
     ensures grid_after { grid.new ≡ grid_after b.now sheet.now grid.old }
 {
-    match book::open(b) {
-        Opened::Refused(n) => Worked::Refused(n),
-        Opened::Accepted(s) => work_in(b, s, sheet, grid),
-    }
+    work_in(book::open(b)?, sheet, grid)
 }

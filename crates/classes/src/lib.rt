@@ -33,7 +33,8 @@ fn signature(list: &[u8], row: &[u8]) -> usize
     number
 }
 
-// Does `c` look like the last candidate with its signature? If not, it takes that one's place in the memory.
+// Does `c` look like the last candidate with its signature? If not, it takes that one's place in the memory, which has one more than it, or 0: an
+// Option would take twice the room.
 fn matched(instance: &Instance<'_>, list: &[u8], memory: &mut [u16], c: usize) -> bool
     requires in_bounds { (16384 ≤ length memory.old) × (c < 16384) × ((x : ℕ) → x < length list.now → get_or list.now x 0 < 32) }
     requires by_index { (h : ℕ) → get_or memory.old h 0 ≤ 16384 }

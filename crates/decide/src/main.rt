@@ -5,26 +5,25 @@
 
 ghost use Rattle.std.specs.Prelude.{◌*◌, ◌<◌, ◌≤◌, length};
 ghost use Rattle.sections.specs.Terms.{term_count, TermsRight};
-ghost use Rattle.book.specs.Opening.{Right};
 
-use book::Opened;
-use decisions::Decision;
+use book::Book;
+use decisions::{Decision, Outcome};
 use gradings::Logic;
-use layout::Sections;
 use printout::Text;
+use refusals::Refusal;
 use std::io;
 
-fn print_refusal(rt: &impl Print, n: u8) -> io::Result<()> {
+fn print_refusal(rt: &impl Print, r: Refusal) -> io::Result<()> {
     let mut out = [0u8; 192];
     let mut text = Text::new(&mut out);
-    text.refused_line(n);
+    text.refused_line(r);
     rt.write_all(text.bytes())
 }
 
-fn print_outcome(rt: &impl Print, outcome: u8, survivors: usize) -> io::Result<()> {
+fn print_outcome(rt: &impl Print, d: Decision) -> io::Result<()> {
     let mut out = [0u8; 192];
     let mut text = Text::new(&mut out);
-    text.outcome_line(outcome, survivors);
+    text.outcome_line(d.outcome.number(), d.survivors);
     rt.write_all(text.bytes())
 }
 
@@ -45,10 +44,10 @@ fn print_types(rt: &impl Print, terms: &[u8], logic: Logic, marks: &[u8]) -> io:
 }
 
 // The survivors' lines.
-fn print_survivors(rt: &impl Print, b: &[u8], s: Sections, marks: &[u8]) -> io::Result<()>
-    requires { Right b.now s × (length marks.now ≤ 16384) }
+fn print_survivors(rt: &impl Print, book: Book<'_>, marks: &[u8]) -> io::Result<()>
+    requires { length marks.now ≤ 16384 }
 {
-    print_types(rt, layout::terms_in(b, s), book::logic_in(b, s), marks)
+    print_types(rt, book.terms(), book.logic(), marks)
 }
 
 // A line for each individual, of which there are at most 8.
@@ -62,27 +61,24 @@ fn print_individuals(rt: &impl Print, placement: &[u8], count: usize) -> io::Res
 }
 
 // The individuals' lines.
-fn print_placement(rt: &impl Print, b: &[u8], s: Sections, placement: &[u8]) -> io::Result<()>
-    requires right { Right b.now s }
-    requires in_bounds { 16 ≤ length placement.now }
+fn print_placement(rt: &impl Print, book: Book<'_>, placement: &[u8]) -> io::Result<()>
+    requires { 16 ≤ length placement.now }
 {
-    let counts = book::counts_in(b, s);
+    let counts = book.counts();
     print_individuals(rt, placement, counts.individuals)
 }
 
 // Decides a book that was opened, and prints the decision. One mark byte for each candidate that a book may have.
-fn print_decision(rt: &impl Print, b: &[u8], s: Sections) -> io::Result<()>
-    requires { Right b.now s }
-{
+fn print_decision(rt: &impl Print, book: Book<'_>) -> io::Result<()> {
     let mut marks = [0u8; 16384];
     let mut placement = [0u8; 16];
-    match decider::decide_in(b, s, &mut marks, &mut placement) {
-        Decision::Refused(n) => print_refusal(rt, n),
-        Decision::Decided(outcome, survivors) => {
-            print_outcome(rt, outcome, survivors)?;
-            print_survivors(rt, b, s, &marks)?;
-            if outcome == 1 {
-                print_placement(rt, b, s, &placement)?;
+    match decider::decide_in(book, &mut marks, &mut placement) {
+        Err(r) => print_refusal(rt, r),
+        Ok(d) => {
+            print_outcome(rt, d)?;
+            print_survivors(rt, book, &marks)?;
+            if d.outcome == Outcome::HoldsTogether {
+                print_placement(rt, book, &placement)?;
             }
             Ok(())
         }
@@ -92,9 +88,8 @@ fn print_decision(rt: &impl Print, b: &[u8], s: Sections) -> io::Result<()>
 fn main(rt: HostRuntime) -> io::Result<()> {
     let mut bytes = [0u8; 983];
     let n = reading::read_full(&mut rt.stdin(), &mut bytes)?;
-    let b = &bytes[..n];
-    match book::open(b) {
-        Opened::Refused(k) => print_refusal(&rt, k),
-        Opened::Accepted(s) => print_decision(&rt, b, s),
+    match book::open(&bytes[..n]) {
+        Err(r) => print_refusal(&rt, r),
+        Ok(book) => print_decision(&rt, book),
     }
 }

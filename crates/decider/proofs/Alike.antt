@@ -8,9 +8,11 @@ use mathlib.Core.List.{List, [], ◌∷◌}
 use Prim.Native.Nat.{ℕ}
 use native.Mathlib.Decide.{dec_le}
 use lib.ListN.{length}
-use Rattle.chain.specs.Questions.{Question, ask, first_no}
-use Rattle.chain.proofs.Questions.{first-none-append}
-use Rattle.chain.proofs.Answers.{answer_alike}
+use Rattle.std.specs.Prelude.{Err}
+use Rattle.refusals.specs.Questions.{Question, ask, first_no}
+use Rattle.refusals.proofs.Questions.{first-none-append}
+use Rattle.refusals.proofs.Answers.{checked_alike}
+use Rattle.refusals.specs.declared.Refusal.TheVariants as refusal
 use Rattle.semantics.specs.Books.{Book, Valid}
 use Rattle.semantics.proofs.Claims.{written}
 use Rattle.types.specs.Candidates.{candidates}
@@ -25,7 +27,6 @@ use Rattle.placement.proofs.Singles.{written-placement, written-outcome}
 use Rattle.placement.proofs.Sharing.{placement-renumbered, outcome-renumbered}
 use Rattle.marking.proofs.Marking.{marks-same}
 use Rattle.decisions.specs.Decided.{placed_in}
-use Rattle.decisions.specs.declared.Decision.TheVariants.{Refused}
 use Rattle.decider.specs.Deciding.{decision_by, placement_by, decide_questions, decision_of, marks_after, placement_after}
 
 pub record SameDecision (B C : Book) : Type 0 where
@@ -73,11 +74,11 @@ module _ (b c : List ℕ) (ok : Accepts b) (also : Accepts c) (same : SameDecisi
       ∙ sym (first-none-append (book_questions c) (then (candidates (book_of c).grading)) also)
     where
       then : ℕ → List Question
-      then k = ask 10 (dec_le k 16384) ∷ ask 11 (dec_le k m) ∷ ask 12 (dec_le 16 p) ∷ []
+      then k = ask refusal.Candidates (dec_le k 16384) ∷ ask refusal.Marks (dec_le k m) ∷ ask refusal.Placement (dec_le 16 p) ∷ []
 
   pub decided_alike : (m p : ℕ) → decision_of b m p ≡ decision_of c m p
   unfolding decision_by
-  decided_alike m p = answer_alike Refused _ _ (decide_questions b m p) (decide_questions c m p) (questions_alike m p) (λ _. rw (same.outcome_same, same.survivors_same))
+  decided_alike m p = checked_alike Err _ _ (decide_questions b m p) (decide_questions c m p) (questions_alike m p) (λ _. rw (same.outcome_same, same.survivors_same))
 
   pub marks_alike : (p : ℕ) (marks : List ℕ) → marks_after b p marks ≡ marks_after c p marks
   marks_alike p marks =
@@ -87,5 +88,5 @@ module _ (b c : List ℕ) (ok : Accepts b) (also : Accepts c) (same : SameDecisi
   pub placement_alike : (m : ℕ) (buffer : List ℕ) → placement_after b m buffer ≡ placement_after c m buffer
   unfolding placement_by
   placement_alike m buffer =
-      answer_alike (λ _. buffer) _ _ (decide_questions b m (length buffer)) (decide_questions c m (length buffer)) (questions_alike m (length buffer))
+      checked_alike (λ _. buffer) _ _ (decide_questions b m (length buffer)) (decide_questions c m (length buffer)) (questions_alike m (length buffer))
       (λ _. ap (λ (o : Option (List ℕ)). placed_in o buffer) same.placement_same)

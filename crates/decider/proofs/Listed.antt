@@ -8,9 +8,11 @@ use native.Mathlib.Omega.{arith}
 use lib.ListN.{length, get_or, drop, length-append, length-drop}
 use lib.Seq.{drop_at, ext_get_or}
 use Rattle.chain.specs.Lists.{index}
-use Rattle.chain.specs.Questions.{Question, first_no}
 use Rattle.chain.proofs.Lists.{length-table, get_or-table}
-use Rattle.chain.proofs.Questions.{first-none-append, first_yes, first-none, first-both, first_empty}
+use Rattle.std.specs.Prelude.{Ok}
+use Rattle.refusals.specs.Questions.{Question, first_no}
+use Rattle.refusals.proofs.Questions.{first-none-append, first_yes, first-none, first-both, first_empty}
+use Rattle.refusals.specs.declared.Refusal.TheVariants as refusal
 use Rattle.semantics.specs.Books.{Book, individuals}
 use Rattle.types.specs.Candidates.{candidates}
 use Rattle.encoding.specs.Words.{word_at, word_bytes}
@@ -30,7 +32,7 @@ use Rattle.marking.specs.Marking.{marks_by}
 use Rattle.marking.proofs.Marking.{marks-are, listed-are, marks-kept, marks-length}
 use Rattle.decisions.specs.Decided.{decision, placed_in, survivors_in}
 use Rattle.decider.specs.Deciding.{decision_by, placement_by, decision_of, marks_after, placement_after, Decidable, outcome_in, placement_in}
-use Rattle.decisions.proofs.Decided.{length_words}
+use Rattle.decisions.proofs.Decided.{numbered-outcome, length_words}
 use Rattle.decider.proofs.Deciding.{decide_none, decide_both, settled}
 
 -- ---- two bytes make a number
@@ -59,7 +61,7 @@ decidable_suffices b m p d =
     let v = first-both (book_questions b) _ u.0 in
     record {
       accepted = v.0;
-      few = (first-none 10 (few_candidates? (book_of b)) [] v.1).0;
+      few = (first-none refusal.Candidates (few_candidates? (book_of b)) [] v.1).0;
       marks_suffice = u.1;
       placement_suffices = u.2;
     }
@@ -68,7 +70,7 @@ pub suffices_decidable : (b : List ℕ) (m p : ℕ) → Suffices b m p → Decid
 unfolding Accepts
 suffices_decidable b m p d =
     decide_none b m p
-    (first-none-append (book_questions b) _ d.accepted ∙ first_yes 10 (few_candidates? (book_of b)) [] d.few ∙ first_empty)
+    (first-none-append (book_questions b) _ d.accepted ∙ first_yes refusal.Candidates (few_candidates? (book_of b)) [] d.few ∙ first_empty)
     d.marks_suffice d.placement_suffices
 
 -- ---- of a book that was read, after questions that all say yes
@@ -76,11 +78,11 @@ suffices_decidable b m p d =
 module _ (B : Book) (qs : List Question) (ok : first_no qs ≡ none) where
   -- ---- the answer
 
-  pub decided_is : decision_by B qs ≡ decision B
+  pub decided_is : decision_by B qs ≡ Ok (decision B)
   decided_is = sym (settled B qs [] [] ok).0
 
   pub outcome-is : outcome_in (decision_by B qs) ≡ outcome B
-  outcome-is = ap outcome_in decided_is
+  outcome-is = ap outcome_in decided_is ∙ numbered-outcome B
 
   pub survivors-is : survivors_in (decision_by B qs) ≡ length (survivors_of B)
   survivors-is = ap survivors_in decided_is

@@ -1,10 +1,8 @@
 // What a call says: the number of the first check that says no, or 0 and two numbers: outcome and survivors, a sheet's length, a grade.
-use checker::Worked;
 use decisions::Decision;
-use working::Verdict;
-use written::Written;
+use refusals::Refusal;
 
-#[derive(Clone, Copy)]
+#[derive(Clone, Copy, PartialEq, Eq)]
 pub struct Answer {
     pub number: usize,
     pub first: usize,
@@ -19,34 +17,27 @@ pub fn answered(number: usize, first: usize, second: usize) -> Answer {
     }
 }
 
-pub fn of_decision(d: Decision) -> Answer {
-    match d {
-        Decision::Refused(n) => answered(n as usize, 0, 0),
-        Decision::Decided(outcome, survivors) => answered(0, outcome as usize, survivors),
-    }
+pub fn refused(r: Refusal) -> Answer {
+    answered(usize::from(r.number()), 0, 0)
 }
 
-pub fn of_written(w: Written) -> Answer {
-    match w {
-        Written::Refused(n) => answered(n as usize, 0, 0),
-        Written::Sheet(length) => answered(0, length, 0),
-    }
-}
-
-pub fn of_grade(a: asking::Answer) -> Answer {
+pub fn of_decision(a: Result<Decision, Refusal>) -> Answer {
     match a {
-        asking::Answer::Refused(n) => answered(n as usize, 0, 0),
-        asking::Answer::Grade(g) => answered(0, g as usize, 0),
+        Ok(d) => answered(0, usize::from(d.outcome.number()), d.survivors),
+        Err(r) => refused(r),
     }
 }
 
-pub fn says_meets(w: Worked) -> bool {
-    match w {
-        Worked::Refused(_) => false,
-        Worked::Says(v) => v == Verdict::Meets,
+pub fn of_length(a: Result<usize, Refusal>) -> Answer {
+    match a {
+        Ok(length) => answered(0, length, 0),
+        Err(r) => refused(r),
     }
 }
 
-pub fn same(a: Answer, b: Answer) -> bool {
-    a.number == b.number && a.first == b.first && a.second == b.second
+pub fn of_grade(a: Result<u8, Refusal>) -> Answer {
+    match a {
+        Ok(g) => answered(0, usize::from(g), 0),
+        Err(r) => refused(r),
+    }
 }

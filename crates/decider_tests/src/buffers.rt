@@ -2,7 +2,6 @@
 ghost use Rattle.std.specs.Prelude.{◌≡◌, length};
 
 use reports::text;
-use std::num::wrapping_add_usize;
 
 const BEFORE: u8 = 0xA5;
 
@@ -44,23 +43,18 @@ pub fn grid() -> [u8; 4096]
 
 // Are the bytes from a place on as before?
 pub fn kept(b: &[u8], from: usize) -> bool {
-    for i in 0..b.len() {
-        if from <= i && b[i] != BEFORE {
-            return false;
-        }
-    }
-    true
+    b.len() <= from || b[from..].iter().all(|x| *x == BEFORE)
 }
 
 // How many of the first bytes are 1; more than there are bytes if one is neither 0 nor 1.
 pub fn ones(b: &[u8], end: usize) -> usize {
-    let mut count = 0;
+    let mut count = 0usize;
     for i in 0..end {
         let x = text::byte(b, i);
         if 1 < x {
-            return wrapping_add_usize(end, 1);
+            return end.wrapping_add(1);
         }
-        count = wrapping_add_usize(count, x as usize);
+        count = count.wrapping_add(usize::from(x));
     }
     count
 }
@@ -79,9 +73,9 @@ pub fn begins(b: &[u8], said: &[u8]) -> bool {
 
 // Is the whole buffer as before but for the bytes that the text says?
 pub fn is_said(b: &[u8], said: &[u8]) -> bool {
-    let mut wanted = placement();
+    let mut wanted = [BEFORE; 32];
     text::write(&mut wanted, said);
-    text::same_bytes(b, &wanted)
+    b == wanted.as_slice()
 }
 
 // Are as many candidates marked as said, and is every byte past the candidates as before?

@@ -15,23 +15,13 @@ use reports::{tally, text};
 use std::io;
 
 // The book's length, where the title of the group stands, and the cases of the group and of all.
-#[derive(Clone, Copy)]
+#[derive(Clone, Copy, Default)]
 struct State {
     book: usize,
     from: usize,
     to: usize,
     group: Tally,
     total: Tally,
-}
-
-fn begin() -> State {
-    State {
-        book: 0,
-        from: 0,
-        to: 0,
-        group: tally::begin(),
-        total: tally::begin(),
-    }
 }
 
 // Prints the group that ends, if it has a case.
@@ -60,7 +50,7 @@ fn case(mut s: State, book: &[u8], sort: u8, line: &[u8]) -> State {
     if book.len() < size {
         s.group = tally::judge(group, false);
     } else {
-        s.group = tally::judge(group, runs::right(&book[0..size], sort, line));
+        s.group = tally::judge(group, runs::right(&book[..size], sort, line));
     }
     s
 }
@@ -72,9 +62,7 @@ fn line(mut s: State, book: &mut [u8], line: &[u8]) -> State {
             s.book = text::write(book, line);
             s
         }
-        b'd' => case(s, book, sort, line),
-        b's' => case(s, book, sort, line),
-        b'l' => case(s, book, sort, line),
+        b'd' | b's' | b'l' => case(s, book, sort, line),
         _ => s,
     }
 }
@@ -98,8 +86,9 @@ fn step(
 }
 
 fn run(rt: &impl Print, book: &mut [u8], input: &[u8]) -> io::Result<State> {
-    let mut s = begin();
+    let mut s = State::default();
     let mut at = 0;
+    // A while: it leaps from line to line.
     while at < input.len() {
         let end = text::line_end(input, at);
         s = step(rt, s, book, input, at, end)?;

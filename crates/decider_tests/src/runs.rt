@@ -2,13 +2,14 @@
 // bytes of the sheet. Everything else is to be as before.
 ghost use Rattle.std.specs.Prelude.{◌≤◌, length};
 
-use crate::answers::{Answer, answered, of_decision, of_grade, of_written, same, says_meets};
+use crate::answers::{Answer, answered, of_decision, of_grade, of_length};
 use crate::buffers;
 use crate::buffers::{begins, is_said, kept, marked};
-use book::Opened;
 use decisions::Decision;
+use refusals::Refusal;
 use reports::text;
-use reports::text::{Row, cell, small};
+use reports::text::Row;
+use working::Verdict;
 
 // The number of no check: the case asks for longer buffers than there are.
 const NO_CALL: usize = 98;
@@ -25,26 +26,26 @@ fn part_end(line: &[u8], from: usize) -> usize
 }
 
 // Of an opened book, or of its bytes.
-fn decide_by(opened: bool, b: &[u8], marks: &mut [u8], placement: &mut [u8]) -> Decision {
-    if !opened {
-        return decider::decide(b, marks, placement);
-    }
-    match book::open(b) {
-        Opened::Refused(n) => Decision::Refused(n),
-        Opened::Accepted(s) => opened::decide(b, s, marks, placement),
+fn decide_by(
+    opened: bool,
+    b: &[u8],
+    marks: &mut [u8],
+    placement: &mut [u8],
+) -> Result<Decision, Refusal> {
+    if opened {
+        decider::decide_in(book::open(b)?, marks, placement)
+    } else {
+        decider::decide(b, marks, placement)
     }
 }
 
 fn decide(opened: bool, book: &[u8], r: Row, marks: &mut [u8], placement: &mut [u8]) -> Answer {
-    let m = cell(r, 0);
-    let p = cell(r, 1);
-    if marks.len() < m {
+    let m = r.cell(0);
+    let p = r.cell(1);
+    if marks.len() < m || placement.len() < p {
         return answered(NO_CALL, 0, 0);
     }
-    if placement.len() < p {
-        return answered(NO_CALL, 0, 0);
-    }
-    of_decision(decide_by(opened, book, &mut marks[0..m], &mut placement[0..p]))
+    of_decision(decide_by(opened, book, &mut marks[..m], &mut placement[..p]))
 }
 
 fn decided_right(
@@ -57,8 +58,8 @@ fn decided_right(
     let mut marks = buffers::marks();
     let mut placement = buffers::placement();
     let a = decide(opened, book, r, &mut marks, &mut placement);
-    same(a, answered(cell(r, 2), cell(r, 3), cell(r, 4)))
-        && marked(&marks, cell(r, 4), cell(r, 5))
+    a == answered(r.cell(2), r.cell(3), r.cell(4))
+        && marked(&marks, r.cell(4), r.cell(5))
         && begins(&marks, said_marks)
         && is_said(&placement, said_placement)
 }
@@ -70,24 +71,13 @@ fn decide_right(book: &[u8], r: Row, said_marks: &[u8], said_placement: &[u8]) -
 }
 
 fn write(book: &[u8], r: Row, marks: &mut [u8], placement: &mut [u8], sheet: &mut [u8]) -> Answer {
-    let m = cell(r, 0);
-    let p = cell(r, 1);
-    let s = cell(r, 2);
-    if marks.len() < m {
+    let m = r.cell(0);
+    let p = r.cell(1);
+    let s = r.cell(2);
+    if marks.len() < m || placement.len() < p || sheet.len() < s {
         return answered(NO_CALL, 0, 0);
     }
-    if placement.len() < p {
-        return answered(NO_CALL, 0, 0);
-    }
-    if sheet.len() < s {
-        return answered(NO_CALL, 0, 0);
-    }
-    of_written(writer::write_sheet(
-        book,
-        &mut marks[0..m],
-        &mut placement[0..p],
-        &mut sheet[0..s],
-    ))
+    of_length(writer::write_sheet(book, &mut marks[..m], &mut placement[..p], &mut sheet[..s]))
 }
 
 // Does working out the sheet say "meets"? There is none if the call was refused.
@@ -99,11 +89,14 @@ fn meets(book: &[u8], sheet: &[u8], number: usize, size: usize) -> bool {
         return false;
     }
     let mut grid = buffers::grid();
-    says_meets(checker::work_out(book, &sheet[0..size], &mut grid))
+    matches!(
+        checker::work_out(book, &sheet[..size], &mut grid),
+        Ok(Verdict::Meets)
+    )
 }
 
 fn sheet_said(book: &[u8], sheet: &[u8], r: Row, said: &[u8]) -> bool {
-    kept(sheet, cell(r, 4)) && begins(sheet, said) && meets(book, sheet, cell(r, 3), cell(r, 4))
+    kept(sheet, r.cell(4)) && begins(sheet, said) && meets(book, sheet, r.cell(3), r.cell(4))
 }
 
 // Marks' room, placement's room, sheet's room -> number, length, survivors, candidates.
@@ -112,8 +105,8 @@ fn sheet_right(book: &[u8], r: Row, said_marks: &[u8], said_placement: &[u8], sa
     let mut placement = buffers::placement();
     let mut sheet = buffers::sheet();
     let a = write(book, r, &mut marks, &mut placement, &mut sheet);
-    same(a, answered(cell(r, 3), cell(r, 4), 0))
-        && marked(&marks, cell(r, 5), cell(r, 6))
+    a == answered(r.cell(3), r.cell(4), 0)
+        && marked(&marks, r.cell(5), r.cell(6))
         && begins(&marks, said_marks)
         && is_said(&placement, said_placement)
         && sheet_said(book, &sheet, r, said)
@@ -121,8 +114,8 @@ fn sheet_right(book: &[u8], r: Row, said_marks: &[u8], said_placement: &[u8], sa
 
 // Role, from, to -> number, grade.
 fn link_right(book: &[u8], r: Row) -> bool {
-    let a = of_grade(asking::link(book, small(r, 0), cell(r, 1), cell(r, 2)));
-    same(a, answered(cell(r, 3), cell(r, 4), 0))
+    let a = of_grade(asking::link(book, r.small(0), r.cell(1), r.cell(2)));
+    a == answered(r.cell(3), r.cell(4), 0)
 }
 
 // How many numbers the row of a case has.
@@ -138,7 +131,7 @@ pub fn right(book: &[u8], sort: u8, line: &[u8]) -> bool {
     let one = text::until(line, 0, b'|');
     let two = part_end(line, one);
     let three = part_end(line, two);
-    let r = text::row_of(&line[0..one]);
+    let r = text::row_of(&line[..one]);
     if r.count != columns(sort) {
         return false;
     }

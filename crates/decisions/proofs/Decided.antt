@@ -2,9 +2,11 @@
 -- Assumes nothing.
 use mathlib.Core.Path.{◌≡◌, refl, sym, ap, ap₂, ◌∙◌}
 use mathlib.Core.Bool.{Bool, true, false}
+use mathlib.Core.Logic.{if_pos, if_neg}
 use mathlib.Core.Option.{Option, none, some}
 use mathlib.Core.List.{List, [], ◌∷◌, ◌++◌, flat_map}
 use Prim.Native.Nat.{ℕ, ◌+◌, ◌*◌, ◌/◌, ◌%◌, ◌≤◌, ◌<◌}
+use native.Mathlib.Decide.{ℕ_discrete}
 use native.Mathlib.Numerals.{add-one}
 use native.Mathlib.Omega.{arith}
 use lib.ListN.{length, get_or, take, drop}
@@ -18,18 +20,43 @@ use Rattle.placement.specs.Dictionary.{Finds}
 use Rattle.placement.proofs.Outcome.{placement_finds}
 use Rattle.placer.specs.Walk.{placed}
 use Rattle.placer.proofs.Walk.{placed_true, placed_false}
-use Rattle.decisions.specs.Decided.{decision, placed_in}
-use Rattle.decisions.specs.Either.{decision_if, placed_if}
-use Rattle.decisions.specs.declared.Decision.TheVariants.{Decided}
+use Rattle.std.specs.Prelude.{None, Some}
+use Rattle.decisions.specs.Decided.{outcome_number, outcome_numbered, placed_in}
+use Rattle.decisions.specs.Either.{outcome_if, placed_if}
+use Rattle.decisions.specs.declared.Outcome.{Outcome}
+use Rattle.decisions.specs.declared.Outcome.TheVariants.{HoldsTogether, ClaimsFail, NoModel}
 
 -- ---- the outcome
 
+-- an outcome is the one with its number
+pub outcome_numbered-is : (o : Outcome) → outcome_numbered (outcome_number o) ≡ o
+unfolding ℕ_discrete
+outcome_numbered-is HoldsTogether = refl
+outcome_numbered-is ClaimsFail = refl
+outcome_numbered-is NoModel = refl
+
+pub outcome-with : (o : Outcome) (n : ℕ) → outcome_number o ≡ n → o ≡ outcome_numbered n
+outcome-with o n e = sym (outcome_numbered-is o) ∙ ap outcome_numbered e
+
 module _ (B : Book) where
-  pub outcome_3 : length (survivors_of B) ≡ 0 → Decided 3 0 ≡ decision B
+  -- the outcome of a book with its number
+  pub numbered-outcome : outcome_number (outcome_numbered (outcome B)) ≡ outcome B
+  unfolding outcome ℕ_discrete
+  numbered-outcome = go (survivors_of B) (placement B)
+    where
+      go : (xs : List ℕ) (o : Option (List ℕ)) → outcome_number (outcome_numbered (outcome_of B xs o)) ≡ outcome_of B xs o
+      go [] o = refl
+      go (x ∷ xs) none = refl
+      go (x ∷ xs) (some p) = refl
+
+  pub outcome_said : (o : Outcome) → outcome_numbered (outcome B) ≡ o → outcome B ≡ outcome_number o
+  outcome_said o e = sym numbered-outcome ∙ ap outcome_number e
+
+  pub outcome_3 : length (survivors_of B) ≡ 0 → 3 ≡ outcome B
   unfolding outcome
   outcome_3 = go (survivors_of B)
     where
-      go : (xs : List ℕ) → length xs ≡ 0 → Decided 3 0 ≡ Decided (outcome_of B xs (placement B)) (length xs)
+      go : (xs : List ℕ) → length xs ≡ 0 → 3 ≡ outcome_of B xs (placement B)
       go [] h = refl
       go (x ∷ xs) h = absurd (omega arith)
 
@@ -69,10 +96,11 @@ module _ (B : Book) where
 
   -- ---- deciding, or marking alone
 
-  pub marks-alone : (d : Bool) → d ≡ false → (Decided 0 (length (survivors_of B)) ≡ decision_if d B) × ((buffer : List ℕ) → buffer ≡ placed_if d B buffer)
+  pub marks-alone : (d : Bool) → d ≡ false → (None ≡ outcome_if d B) × ((buffer : List ℕ) → buffer ≡ placed_if d B buffer)
   marks-alone d e = rw e (refl, λ buffer. refl)
 
-  pub decides : (d : Bool) → d ≡ true → (decision B ≡ decision_if d B) × ((buffer : List ℕ) → placed_in (placement B) buffer ≡ placed_if d B buffer)
+  pub decides : (d : Bool) → d ≡ true
+      → (Some (outcome_numbered (outcome B)) ≡ outcome_if d B) × ((buffer : List ℕ) → placed_in (placement B) buffer ≡ placed_if d B buffer)
   decides d e = rw e (refl, λ buffer. refl)
 
 -- ---- the placement's bytes

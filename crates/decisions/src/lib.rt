@@ -7,21 +7,40 @@ ghost use mathlib.Core.List.{◌++◌, flat_map};
 ghost use Rattle.encoding.specs.Words.{word_bytes};
 ghost use Rattle.semantics.specs.Books.{individuals as individualsOf};
 ghost use Rattle.book.specs.Reading.{book_of};
-ghost use Rattle.elimination.specs.Marks.{marked};
 ghost use Rattle.elimination.specs.Survivors.{survivors_of};
 ghost use Rattle.placement.specs.Outcome.{placement as placementOf, outcome};
 ghost use Rattle.placer.specs.Walk.{placed};
 ghost use Rattle.marking.specs.Equipped.{Equipped};
-ghost use Rattle.decisions.specs.Decided.{placed_in};
+ghost use Rattle.decisions.specs.Decided.{outcome_number, placed_in};
 
 use gradings::Logic;
-use layout::Sections;
+use marking::Marked;
 
-// The number of the first check that says no, or the outcome and the number of survivors.
+// Whether rules and claims hold together. The document's number beside each.
+#[derive(Clone, Copy, Debug, PartialEq, Eq)]
+pub enum Outcome {
+    // Some model meets rules and claims.
+    HoldsTogether = 1,
+    // The rules have a model, but none meets the claims.
+    ClaimsFail = 2,
+    // The rules have no model.
+    NoModel = 3,
+}
+
+impl Outcome {
+    // The document's number.
+    pub fn number(self) -> u8
+        ensures { result ≡ outcome_number self }
+    {
+        self as u8
+    }
+}
+
+// What deciding says: the outcome, and the number of survivors.
 #[derive(Clone, Copy)]
-pub enum Decision {
-    Refused(u8),
-    Decided(u8, usize),
+pub struct Decision {
+    pub outcome: Outcome,
+    pub survivors: usize,
 }
 
 // Writes a placement, two bytes per individual.
@@ -29,38 +48,32 @@ fn write_placement(seats: &[u16], placement: &mut [u8])
     requires { 2 * length seats.now ≤ length placement.old }
     ensures { placement.new ≡ flat_map word_bytes seats.now ++ drop (2 * length seats.now) placement.old }
 {
-    let count = seats.len();
-    let mut i = 0;
-    while i < count {
+    for i in 0..seats.len() {
         encoding::write_word(placement, 2 * i, seats[i]);
-        i += 1;
     }
 }
 
 // The first placement of the individuals at the survivors, where there is one.
 fn seat(
-    b: &[u8],
-    s: Sections,
+    marked: Marked<'_>,
     logic: Logic,
     slots: &[u8],
-    count: usize,
-    marks: &[u8],
     individuals: usize,
     seats: &mut [u16],
 ) -> bool
-    requires equipped { Equipped b.now s logic slots.now }
-    requires count_bound { (count ≤ 16384) × (count ≤ length marks.now) × (marked marks.now count ≡ survivors_of (book_of b.now)) }
-    requires individuals_value { (individuals ≡ individualsOf (book_of b.now)) × (individuals ≤ length seats.old) }
-    ensures { placed result (take individuals seats.new) ≡ placementOf (book_of b.now) }
+    requires equipped { Equipped marked.counted.book.bytes.now marked.counted.book.sections logic slots.now }
+    requires individuals_value { (individuals ≡ individualsOf (book_of marked.counted.book.bytes.now)) × (individuals ≤ length seats.old) }
+    ensures { placed result (take individuals seats.new) ≡ placementOf (book_of marked.entry.counted.book.bytes.now) }
 {
+    let book = marked.counted.book;
     placer::place(
         logic,
-        layout::terms_in(b, s),
+        book.terms(),
         slots,
-        layout::memberships_in(b, s),
-        layout::links_in(b, s),
-        marks,
-        count,
+        book.memberships(),
+        book.links(),
+        marked.marks,
+        marked.counted.count,
         individuals,
         seats,
     )
@@ -68,26 +81,21 @@ fn seat(
 
 // Places the individuals at the survivors that are marked, and writes the placement: outcome 1, or 2 where there is none.
 pub fn place_individuals(
-    b: &[u8],
-    s: Sections,
+    marked: Marked<'_>,
     logic: Logic,
     slots: &[u8],
-    count: usize,
-    marks: &[u8],
     placement: &mut [u8],
-) -> u8
-    requires equipped { Equipped b.now s logic slots.now }
-    requires count_bound { (count ≤ 16384) × (count ≤ length marks.now) × (marked marks.now count ≡ survivors_of (book_of b.now)) }
-    requires nonzero { (0 < length (survivors_of (book_of b.now))) × (16 ≤ length placement.old) }
-    ensures value { result ≡ outcome (book_of b.now) }
-    ensures placement_after { placement.new ≡ placed_in (placementOf (book_of b.now)) placement.old }
+) -> Outcome
+    requires equipped { Equipped marked.counted.book.bytes.now marked.counted.book.sections logic slots.now }
+    requires nonzero { (0 < length (survivors_of (book_of marked.counted.book.bytes.now))) × (16 ≤ length placement.old) }
+    ensures value { outcome_number result ≡ outcome (book_of marked.entry.counted.book.bytes.now) }
+    ensures placement_after { placement.new ≡ placed_in (placementOf (book_of marked.entry.counted.book.bytes.now)) placement.old }
 {
-    let counts = book::counts_in(b, s);
-    let individuals = counts.individuals;
+    let individuals = marked.counted.book.counts().individuals;
     let mut seats = [0u16; 8];
-    if !seat(b, s, logic, slots, count, marks, individuals, &mut seats) {
-        return 2;
+    if !seat(marked, logic, slots, individuals, &mut seats) {
+        return Outcome::ClaimsFail;
     }
     write_placement(&seats[..individuals], placement);
-    1
+    Outcome::HoldsTogether
 }

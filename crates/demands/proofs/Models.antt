@@ -3,6 +3,7 @@
 use mathlib.Core.Path.{◌≡◌, refl, ap, ◌∙◌}
 use mathlib.Core.List.{List}
 use Prim.Native.Nat.{ℕ}
+use native.Mathlib.Decide.{ℕ_discrete}
 use native.Mathlib.Omega.{arith}
 use lib.ListN.{length}
 use Rattle.chain.specs.Lists.{Each, table}
@@ -10,7 +11,8 @@ use Rattle.chain.proofs.Lists.{length-table, each_mem, mem_each}
 use Rattle.semantics.specs.Books.{Satisfiable, RulesSatisfiable}
 use Rattle.book.specs.Reading.{book_of}
 use Rattle.decider.specs.Deciding.{Decidable, decision_of, outcome_in}
-use Rattle.decisions.specs.declared.Decision.TheVariants.{Decided}
+use Rattle.std.specs.Prelude.{Ok}
+use Rattle.decisions.specs.Decided.{outcome_number, outcome_numbered}
 use Rattle.decider.proofs.Deciding.{decision_decided}
 use Rattle.demands.specs.Demand3.{outcome_1_holds_together, outcome_2_claims_fail, outcome_3_no_model}
 use Rattle.demands.specs.Readings.{Reading, link_reading, book_reading, Reads, readings, printed, under_some, some_bottom}
@@ -27,16 +29,17 @@ Models (book_reading b o k ms ps) =
     (o ≡ 1 → Satisfiable (book_of b)) × (o ≡ 2 → RulesSatisfiable (book_of b) × ¬ Satisfiable (book_of b)) × (o ≡ 3 → ¬ RulesSatisfiable (book_of b))
 
 models_of : (q : Reading) → Reads q → Models q
+unfolding ℕ_discrete
 models_of (link_reading b c d l) r = tt
 models_of (book_reading b o k ms ps) r =
     let marks = zeros (length ms) in
     let buffer = zeros 16 in
-    let a : decision_of b (length marks) (length buffer) ≡ Decided o k =
+    let a : decision_of b (length marks) (length buffer) ≡ Ok (record { outcome = outcome_numbered o; survivors = k }) =
     (r marks buffer (omega (arith, length-table {A = ℕ} (λ _. 0) (length ms))) (omega (arith, length-table {A = ℕ} (λ _. 0) 16))).0 in
-    let d : Decidable b (length marks) (length buffer) = (decision_decided _ _ o k a).0 in (
-      λ e. (outcome_1_holds_together b marks buffer d).0 (ap outcome_in a ∙ e),
-      λ e. (outcome_2_claims_fail b marks buffer d).0 (ap outcome_in a ∙ e),
-      λ e. (outcome_3_no_model b marks buffer d).0 (ap outcome_in a ∙ e),
+    let d : Decidable b (length marks) (length buffer) = (decision_decided _ _ _ a).0 in (
+      λ e. (outcome_1_holds_together b marks buffer d).0 (ap outcome_in a ∙ ap (λ (n : ℕ). outcome_number (outcome_numbered n)) e),
+      λ e. (outcome_2_claims_fail b marks buffer d).0 (ap outcome_in a ∙ ap (λ (n : ℕ). outcome_number (outcome_numbered n)) e),
+      λ e. (outcome_3_no_model b marks buffer d).0 (ap outcome_in a ∙ ap (λ (n : ℕ). outcome_number (outcome_numbered n)) e),
     )
 
 models : Each Models readings

@@ -1,12 +1,13 @@
 -- The readings hold: each is worked out from the definitions, which compute. Statements on `readings`, `ranked_readings`, `set_readings` and
 -- `name_readings` of specs/Readings.
 -- Assumes nothing.
-use Rattle.std.specs.Prelude.{◌≡◌, refl, ℕ, ◌*◌, ◌≤◌, length, drop}
-use Rattle.std.proofs.Common.{◌∙◌}
+use Rattle.std.specs.Prelude.{◌≡◌, refl, ℕ, ◌*◌, ◌≤◌, length, drop, Ok}
+use Rattle.std.proofs.Common.{ap, ◌∙◌}
 use Rattle.std.proofs.Math.Option.{none}
 use mathlib.Core.List.{List, [], ◌∷◌, ◌++◌, flat_map}
+use native.Mathlib.Decide.{ℕ_discrete}
 use Rattle.chain.specs.Decisions.{says}
-use Rattle.chain.specs.Questions.{first_no}
+use Rattle.refusals.specs.Questions.{first_no}
 use Rattle.chain.specs.Search.{first, rank}
 use Rattle.chain.specs.Lists.{Each, table, highest, from, keep, each?, any?}
 use Rattle.chain.specs.Digits.{digit}
@@ -26,11 +27,9 @@ use Rattle.layout.specs.Layout.{sections_of, laid_out?}
 use Rattle.book.specs.Reading.{book_of}
 use Rattle.counter.specs.Counting.{few_candidates?, candidate_questions}
 use Rattle.asking.specs.Asking.{graded_by, link_answer}
-use Rattle.asking.specs.declared.Answer.TheVariants.{Grade}
 use Rattle.marking.specs.Marking.{marked_in}
-use Rattle.decisions.specs.Decided.{decision, placed_in}
+use Rattle.decisions.specs.Decided.{outcome_numbered, decision, placed_in}
 use Rattle.decider.specs.Deciding.{decision_of, marks_after, placement_after, Decidable}
-use Rattle.decisions.specs.declared.Decision.TheVariants.{Decided}
 use Rattle.decider.proofs.Deciding as Deciding
 use Rattle.marking.proofs.Marking as Marks
 use Rattle.decider.proofs.Listed as Left
@@ -42,9 +41,9 @@ use Rattle.demands.specs.Readings.{Reading, link_reading, book_reading, Reads, r
 
 -- what it comes to in the definitions, which compute
 abbrev Computes : Reading → Type 0
-Computes (link_reading b c d l) = link_answer b 0 c d ≡ Grade l
+Computes (link_reading b c d l) = link_answer b 0 c d ≡ Ok l
 Computes (book_reading b o k ms ps) =
-    (first_no (candidate_questions b) ≡ none) × (candidates (book_of b).grading ≡ length ms) × (decision (book_of b) ≡ Decided o k)
+    (first_no (candidate_questions b) ≡ none) × (candidates (book_of b).grading ≡ length ms) × (decision (book_of b) ≡ record { outcome = outcome_numbered o; survivors = k })
     × ((marks : List ℕ) → marked_in (book_of b) marks ≡ ms ++ drop (length ms) marks)
     × ((buffer : List ℕ) → placed_in (placement (book_of b)) buffer ≡ ps ++ drop (length ps) buffer)
 
@@ -52,12 +51,12 @@ computed : (q : Reading) → Computes q → Reads q
 computed (link_reading b c d l) e = e
 computed (book_reading b o k ms ps) (asked, count, answer, marks-are, placement-is) = λ marks buffer h g.
     let d : Decidable b (length marks) (length buffer) = Deciding.decide_none b (length marks) (length buffer) asked (rw count h) g in
-    (Left.decided_is (book_of b) _ d ∙ answer, Marks.marks-are (book_of b) _ marks d ∙ marks-are marks, Left.placement-is (book_of b) _ d buffer ∙ placement-is buffer)
+    (Left.decided_is (book_of b) _ d ∙ ap Ok answer, Marks.marks-are (book_of b) _ marks d ∙ marks-are marks, Left.placement-is (book_of b) _ d buffer ∙ placement-is buffer)
 
 computing : Each Computes readings
 unfolding graded_by first_no says length_right? edition_right? steps_right? counts_right? laid_out? terms_right? rules_right? memberships_right? links_right? pairs_right? few_candidates?
     book_of by_edition sections_of word_at terms_of rules_of pairs_of memberships_of members_of links_of table outcome placement placement_among individuals highest try_each holds? survivors
-    settle fits? from keep each? any? marks_of candidates places link_between grade_in value deep place_number home home_as bearer first opens? rank digit flat_map
+    settle fits? from keep each? any? marks_of candidates places link_between grade_in value deep place_number home home_as bearer first opens? rank digit flat_map ℕ_discrete
 computing = (
   refl,
   (
@@ -97,7 +96,7 @@ readings_on_file = mem_each {P = Reads} readings (λ q m. computed q (each_mem C
 ranked_computing : Each Computes ranked_readings
 unfolding first_no says length_right? edition_right? steps_right? counts_right? laid_out? terms_right? rules_right? memberships_right? links_right? pairs_right? few_candidates?
     book_of by_edition sections_of word_at terms_of rules_of pairs_of memberships_of members_of links_of table outcome placement placement_among individuals highest try_each holds? survivors
-    settle fits? from keep each? any? marks_of candidates places link_between grade_in value deep place_number home home_as bearer first opens? rank digit flat_map
+    settle fits? from keep each? any? marks_of candidates places link_between grade_in value deep place_number home home_as bearer first opens? rank digit flat_map ℕ_discrete
     hierarchy role_pairs upward?
 ranked_computing = (
   (refl, refl, refl, λ _. refl, λ _. refl),
@@ -119,7 +118,7 @@ readings_of_pairs = mem_each {P = Reads} ranked_readings (λ q m. computed q (ea
 set_computing : Each Computes set_readings
 unfolding first_no says length_right? edition_right? steps_right? counts_right? laid_out? terms_right? rules_right? memberships_right? links_right? pairs_right? few_candidates?
     book_of by_edition sections_of word_at terms_of rules_of pairs_of memberships_of members_of links_of table outcome placement placement_among individuals highest try_each holds? survivors
-    settle fits? from keep each? any? marks_of candidates places link_between grade_in value deep place_number home home_as bearer first opens? rank digit flat_map
+    settle fits? from keep each? any? marks_of candidates places link_between grade_in value deep place_number home home_as bearer first opens? rank digit flat_map ℕ_discrete
 set_computing = (
   (refl, refl, refl, λ _. refl, λ _. refl),
   ((refl, refl, refl, λ _. refl, λ _. refl), ((refl, refl, refl, λ _. refl, λ _. refl), ((refl, refl, refl, λ _. refl, λ _. refl), tt))),
@@ -131,7 +130,7 @@ readings_of_sets = mem_each {P = Reads} set_readings (λ q m. computed q (each_m
 name_computing : Each Computes name_readings
 unfolding first_no says length_right? edition_right? steps_right? counts_right? laid_out? terms_right? rules_right? memberships_right? links_right? pairs_right? few_candidates?
     book_of by_edition sections_of word_at terms_of rules_of pairs_of memberships_of members_of links_of table outcome placement placement_among individuals highest try_each holds? survivors
-    settle fits? from keep each? any? marks_of candidates places link_between grade_in value deep place_number home home_as bearer first opens? rank digit flat_map
+    settle fits? from keep each? any? marks_of candidates places link_between grade_in value deep place_number home home_as bearer first opens? rank digit flat_map ℕ_discrete
 name_computing = (
   (refl, refl, refl, λ _. refl, λ _. refl),
   ((refl, refl, refl, λ _. refl, λ _. refl), ((refl, refl, refl, λ _. refl, λ _. refl), ((refl, refl, refl, λ _. refl, λ _. refl), tt))),

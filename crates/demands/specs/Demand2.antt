@@ -2,9 +2,9 @@
 -- grades are those of document 01's table (semantics/specs/Table), and no others; and of bytes: what `checker::work_out` answers and leaves in the
 -- grid, by its contract. Sentences in quotation marks are document 01's.
 -- Assumes nothing.
-use Rattle.std.specs.Prelude.{◌≡◌, ◌↔◌, List, ℕ, ◌+◌, ◌*◌, ◌≤◌, ◌<◌, length, get_or, drop}
+use Rattle.std.specs.Prelude.{◌≡◌, ◌↔◌, List, ℕ, ◌+◌, ◌*◌, ◌≤◌, ◌<◌, length, get_or, drop, Ok}
 use Rattle.std.proofs.Math.Option.{none}
-use Rattle.chain.specs.Questions.{first_no}
+use Rattle.refusals.specs.Questions.{first_no}
 use Rattle.semantics.specs.Interpretations.{Grading, WellFormed, Interpretation, OnChain, grade_at}
 use Rattle.semantics.specs.Table.{Table}
 use Rattle.semantics.proofs.Interpretations.{grade_at_le}
@@ -16,7 +16,6 @@ use Rattle.sheets.specs.Reading.{sheet_of}
 use Rattle.working.specs.Working.{Says}
 use Rattle.working.specs.declared.Verdict.{Verdict}
 use Rattle.checker.specs.Working.{grid_size, work_questions, worked_of, grid_after}
-use Rattle.checker.specs.declared.Worked.TheVariants.{Says as Answers}
 use Rattle.checker.proofs.Grids as Grids
 
 -- ---- of an accepted book, on every interpretation on its chain
@@ -62,5 +61,5 @@ module _ (b t grid : List ℕ) (ok : first_no (work_questions b t (length grid))
   -- "The answer is "meets", or the first rule broken with its lowest element, else the first membership claim broken, else the first link claim.";
   -- "On a sheet, "meets" asks for every pair too, and a broken pair is named after the rules and before the claims, with its lowest first, then
   -- second element." (document 02, P1)
-  pub answer-says : (v : Verdict) → (worked_of b t (length grid) ≡ Answers v) ↔ Says (book_of b) (sheet_of t) v
+  pub answer-says : (v : Verdict) → (worked_of b t (length grid) ≡ Ok v) ↔ Says (book_of b) (sheet_of t) v
   answer-says = Grids.answered b t grid ok

@@ -3,7 +3,7 @@
 -- `marks_after` and `placement_after` give, and these are the contract of `decider::decide`; how they are worked out needs no belief, since the
 -- theorems say what they come to. Each theorem stands under the sentence that it says, and is proved by naming a law.
 -- Assumes nothing.
-use Rattle.std.specs.Prelude.{◌≡◌, ◌↔◌, ◌⊎◌, List, ℕ, ◌*◌, ◌<◌, length, get_or, drop}
+use Rattle.std.specs.Prelude.{◌≡◌, ◌↔◌, ◌⊎◌, List, ℕ, ◌*◌, ◌<◌, length, get_or, drop, Result}
 use Rattle.std.proofs.Common.{sym, ◌∙◌}
 use Rattle.std.proofs.Math.Option.{some}
 use Rattle.chain.specs.Lists.{Mem, Each, Ascending}
@@ -18,6 +18,7 @@ use Rattle.placement.specs.Outcome.{seat, placement, outcome, placed_among, plac
 use Rattle.decider.specs.Deciding.{decision_of, marks_after, placement_after, outcome_in, Decidable, CalledUnsatisfiable, listed_by, placement_in, interpretation_in}
 use Rattle.decisions.specs.Decided.{survivors_in}
 use Rattle.decisions.specs.declared.Decision.{Decision}
+use Rattle.refusals.specs.declared.Refusal.{Refusal}
 use Rattle.types.proofs.Candidates as Candidates
 use Rattle.elimination.proofs.Survivors as Survivors
 use Rattle.elimination.proofs.Complete as Complete
@@ -39,7 +40,7 @@ module _ (b marks buffer : List ℕ) (d : Decidable b (length marks) (length buf
   G = B.grading
 
   -- what deciding answers, what it leaves, and the types that its marks list
-  abbrev answer : Decision
+  abbrev answer : Result Decision Refusal
   answer = decision_of b (length marks) (length buffer)
 
   abbrev marks' : List ℕ

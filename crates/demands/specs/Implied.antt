@@ -2,14 +2,18 @@
 -- `table_marks_after` and `table_after` give, and these are the contract of `implied::implied_rules`; how they are worked out needs no belief, since the
 -- theorems say what they come to.
 -- Assumes nothing.
-use Rattle.std.specs.Prelude.{◌≡◌, refl, ◌↔◌, ◌⊎◌, List, [], ◌∷◌, map, ℕ, ◌+◌, ◌*◌, ◌≤◌, ◌<◌, length, get_or, drop}
+use Rattle.std.specs.Prelude.{◌≡◌, refl, ◌↔◌, ◌⊎◌, List, [], ◌∷◌, map, ℕ, ◌+◌, ◌*◌, ◌≤◌, ◌<◌, length, get_or, drop, Result, Ok, Err}
 use Rattle.std.proofs.Common.{sym, ap, ◌∙◌}
 use mathlib.Core.Logic.Iff
 use Rattle.std.proofs.Math.Option.{none, some}
 use Rattle.chain.specs.Lists.{Mem}
-use Rattle.chain.specs.Questions.{Question, first_no}
+use Rattle.refusals.specs.Refusals.{number_of}
+use Rattle.refusals.specs.Questions.{Question, first_no}
+use Rattle.refusals.specs.Answers.{refusal_in}
+use Rattle.refusals.specs.declared.Refusal.{Refusal}
+use Rattle.refusals.specs.declared.Refusal.TheVariants as refusal
 use Rattle.chain.proofs.Lists.{each_mem}
-use Rattle.chain.proofs.Questions.{first-both}
+use Rattle.refusals.proofs.Questions.{first-both}
 use Rattle.semantics.specs.Interpretations.{Grading, Interpretation, grade_at}
 use Rattle.semantics.specs.Books.{Book, Rule, Valid, RuleModel}
 use Rattle.types.specs.Candidates.{candidates, grade_in}
@@ -21,13 +25,10 @@ use Rattle.counter.specs.Counting.{candidate_questions}
 use Rattle.elimination.specs.Survivors.{survivors_of}
 use Rattle.elimination.specs.Marks.{Marked}
 use Rattle.asking.specs.Asking.{grade_answer}
-use Rattle.asking.specs.declared.Answer.TheVariants.{Grade}
 use Rattle.decider.specs.Deciding.{decision_of, marks_after, Decidable, listed_by}
 use Rattle.decisions.specs.Decided.{survivors_in as decidedSurvivors}
 use Rattle.subsumption.specs.Subsumption.{Subsumed, implied_byte}
-use Rattle.implied.specs.Implying.{implied_questions, implied_of, table_marks_after, table_after, implied_number, survivors_in}
-use Rattle.implied.specs.declared.Implied.{Implied}
-use Rattle.implied.specs.declared.Implied.TheVariants.{Refused}
+use Rattle.implied.specs.Implying.{implied_questions, implied_of, table_marks_after, table_after, survivors_in}
 use Rattle.book.proofs.Reading.{accepts_valid}
 use Rattle.book.proofs.Opening.{accepts_right}
 use Rattle.elimination.proofs.Survivors as Survivors
@@ -43,11 +44,11 @@ use Rattle.demands.specs.Types.{grade_answers}
 
 module _ (b : List ℕ) (m t : ℕ) where
   -- "23 when the table buffer is shorter than the square of the term count, after 11.": with m mark bytes and t table bytes
-  pub implying_asks : map (λ (q : Question). q.number) (implied_questions b m t) ≡ 1 ∷ 2 ∷ 3 ∷ 4 ∷ 5 ∷ 6 ∷ 7 ∷ 8 ∷ 9 ∷ 22 ∷ 10 ∷ 11 ∷ 23 ∷ []
+  pub implying_asks : map (λ (q : Question). number_of q.refusal) (implied_questions b m t) ≡ 1 ∷ 2 ∷ 3 ∷ 4 ∷ 5 ∷ 6 ∷ 7 ∷ 8 ∷ 9 ∷ 22 ∷ 10 ∷ 11 ∷ 23 ∷ []
   implying_asks = refl
 
-  pub implying_refuses : implied_number (implied_of b m t) ≡ first_no (implied_questions b m t)
-  implying_refuses = Implying.implied_number-is _ _
+  pub implying_refuses : refusal_in (implied_of b m t) ≡ first_no (implied_questions b m t)
+  implying_refuses = Implying.implied_refusal _ _
 
 -- "the term count": an accepted book has as many terms as its first entry counts
 pub terms-are-counted : (b : List ℕ) → Accepts b → length (book_of b).grading.terms ≡ count_at b 0
@@ -58,16 +59,16 @@ module _ (b : List ℕ) (m t : ℕ) (counted : first_no (candidate_questions b) 
   abbrev T : ℕ
   T = length (book_of b).grading.terms
 
-  pub check_23 : (first_no (implied_questions b m t) ≡ some 23) ↔ (t < T * T)
+  pub check_23 : (first_no (implied_questions b m t) ≡ some refusal.Table) ↔ (t < T * T)
   check_23 = Implying.says_23 b m t counted room
 
 -- a refusal changes neither buffer
-module _ (b marks table : List ℕ) (n : ℕ) (no : implied_of b (length marks) (length table) ≡ Refused n) where
+module _ (b marks table : List ℕ) (r : Refusal) (no : implied_of b (length marks) (length table) ≡ Err r) where
   pub refused-marks_stay : table_marks_after b (length table) marks ≡ marks
-  refused-marks_stay = sym (Implying.refused _ _ marks table n (Implying.implied_refused _ _ n no)).1.0
+  refused-marks_stay = sym (Implying.refused _ _ marks table r (Implying.implied_refused _ _ r no)).1.0
 
   pub refused-table_stays : table_after b (length marks) table ≡ table
-  refused-table_stays = sym (Implying.refused _ _ marks table n (Implying.implied_refused _ _ n no)).1.1
+  refused-table_stays = sym (Implying.refused _ _ marks table r (Implying.implied_refused _ _ r no)).1.1
 
 -- ---- where every check says yes: the buffers hold `marks` and `table`, whatever these are
 
@@ -78,7 +79,7 @@ module _ (b marks table : List ℕ) (ok : first_no (implied_questions b (length 
   abbrev G : Grading
   G = B.grading
 
-  abbrev answer : Implied
+  abbrev answer : Result ℕ Refusal
   answer = implied_of b (length marks) (length table)
 
   abbrev marks' : List ℕ
@@ -171,14 +172,14 @@ module _ (b marks table : List ℕ) (ok : first_no (implied_questions b (length 
   -- where the byte is 0 a listed type shows it: `checker::grade` says of a marked candidate that it grades left above right
   pub a_listed_type_shows_it : (i j : ℕ) → i < width → j < width → byte i j ≡ 0
       → (c : ℕ) × (c < candidates G) × Marked marks' c
-      × (x : ℕ) × (y : ℕ) × (grade_answer b c i ≡ Grade x) × (grade_answer b c j ≡ Grade y) × (y < x)
+      × (x : ℕ) × (y : ℕ) × (grade_answer b c i ≡ Ok x) × (grade_answer b c j ≡ Ok y) × (y < x)
   a_listed_type_shows_it i j h l e =
       let none-says = (Subsumption.byte_else G (survivors_of B) i j).0 (sym (byte-is i j h l) ∙ e) in
       let w = Subsumption.subsumed_shown G (survivors_of B) i j none-says in
       let c = w.0 in
       let counted = first-both (candidate_questions b) _ ok in
       let below = (Survivors.survivors_sound G B.rules).candidate c w.1 in
-      let asked : (k : ℕ) → k < width → grade_answer b c k ≡ Grade (grade_in G c k) =
+      let asked : (k : ℕ) → k < width → grade_answer b c k ≡ Ok (grade_in G c k) =
       λ k g. grade_answers b c k (Asking.grade-none b counted.0 c k below g) in
       (c, below, Marks.survivor_marked B _ marks ok c w.1, grade_in G c i, grade_in G c j, asked i h, asked j l, w.2)
 

@@ -1,12 +1,12 @@
 -- The program's printout. Document 01, "The program's printout".
 -- Assumes nothing.
-use Rattle.std.specs.Prelude.{◌≡◌, refl, ℕ, ◌+◌, ◌*◌, length}
+use Rattle.std.specs.Prelude.{◌≡◌, refl, ℕ, ◌+◌, ◌*◌, length, Result}
 use Rattle.std.proofs.Math.Path.{sym, ap}
 use Rattle.std.proofs.Common.{ap₂, ◌∙◌}
 use mathlib.Core.List.{List, [], ◌++◌, flat_map}
 use Rattle.std.proofs.Math.Decide.{dec_lt}
 use Rattle.chain.specs.Decisions.{says}
-use Rattle.chain.specs.Questions.{first_no}
+use Rattle.refusals.specs.Questions.{first_no}
 use Rattle.chain.specs.Search.{first, rank}
 use Rattle.chain.specs.Lists.{table, highest, from, keep, each?}
 use Rattle.chain.specs.Digits.{digit}
@@ -32,7 +32,9 @@ use Rattle.printout.specs.Lines.{labelled, newline, refused_line, outcome_line, 
 use Rattle.printout.specs.Printout.{decided_lines, printed_by, printout_of}
 use Rattle.std.proofs.Math.Option.{Option, some}
 use Rattle.std.proofs.Math.ListN.{get_or}
-use Rattle.chain.proofs.Questions.{first-both}
+use Rattle.refusals.proofs.Questions.{first-both}
+use Rattle.refusals.specs.Refusals.{number_of}
+use Rattle.refusals.specs.declared.Refusal.{Refusal}
 use Rattle.chain.proofs.Lists.{get_or-table}
 use Rattle.elimination.specs.Marks.{Marked, marked?, marked}
 use Rattle.decider.specs.Deciding.{decision_of, marks_after, placement_after, outcome_in, Decidable}
@@ -59,7 +61,7 @@ module _ (b marks buffer : List ℕ) (d : Decidable b (length marks) (length buf
   abbrev B : Book
   B = book_of b
 
-  abbrev answer : Decision
+  abbrev answer : Result Decision Refusal
   answer = decision_of b (length marks) (length buffer)
 
   abbrev types : List ℕ
@@ -71,7 +73,7 @@ module _ (b marks buffer : List ℕ) (d : Decidable b (length marks) (length buf
 
   printout_is : decided_lines B ≡ printout_of b
   unfolding printout_of
-  printout_is = sym (ap (λ (o : Option ℕ). printed_by o B) (first-both (candidate_questions b) _ d).0)
+  printout_is = sym (ap (λ (o : Option Refusal). printed_by o B) (first-both (candidate_questions b) _ d).0)
 
   types_are : types ≡ survivors_of B
   types_are = Marks.listed-all B _ marks d (Left.decidable_suffices b (length marks) (length buffer) d).marks_suffice clear
@@ -104,6 +106,6 @@ pub types_in_blocks : (row : ℕ → List ℕ) (marks : List ℕ) (a m n : ℕ)
 types_in_blocks row marks = types_blocks row (marked? marks)
 
 -- and of a book that is refused before that, the refusal's line
-pub printed_refusal : (b : List ℕ) (n : ℕ) → first_no (candidate_questions b) ≡ some n → refused_line n ≡ printout_of b
+pub printed_refusal : (b : List ℕ) (r : Refusal) → first_no (candidate_questions b) ≡ some r → refused_line (number_of r) ≡ printout_of b
 unfolding printout_of
-printed_refusal b n e = sym (ap (λ (o : Option ℕ). printed_by o (book_of b)) e)
+printed_refusal b r e = sym (ap (λ (o : Option Refusal). printed_by o (book_of b)) e)

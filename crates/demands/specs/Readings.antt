@@ -1,12 +1,12 @@
 -- The readings on file of document 01, on bytes: one theorem over the whole table, links and books; and three over readings of
 -- document 02, P1, P2 and P5.
 -- Assumes nothing.
-use Rattle.std.specs.Prelude.{◌≡◌, refl, ℕ, ◌*◌, ◌≤◌, length, drop}
+use Rattle.std.specs.Prelude.{◌≡◌, refl, ℕ, ◌*◌, ◌≤◌, length, drop, Ok}
 use Rattle.std.proofs.Common.{◌∙◌}
 use Rattle.std.proofs.Math.Option.{none}
 use mathlib.Core.List.{List, [], ◌∷◌, ◌++◌, flat_map}
 use Rattle.chain.specs.Decisions.{says}
-use Rattle.chain.specs.Questions.{first_no}
+use Rattle.refusals.specs.Questions.{first_no}
 use Rattle.chain.specs.Search.{first, rank}
 use Rattle.chain.specs.Lists.{Each, table, highest, from, keep, each?, any?}
 use Rattle.chain.specs.Digits.{digit}
@@ -26,11 +26,9 @@ use Rattle.layout.specs.Layout.{sections_of, laid_out?}
 use Rattle.book.specs.Reading.{book_of}
 use Rattle.counter.specs.Counting.{few_candidates?, candidate_questions}
 use Rattle.asking.specs.Asking.{graded_by, link_answer}
-use Rattle.asking.specs.declared.Answer.TheVariants.{Grade}
 use Rattle.marking.specs.Marking.{marked_in}
-use Rattle.decisions.specs.Decided.{decision, placed_in}
+use Rattle.decisions.specs.Decided.{outcome_numbered, decision, placed_in}
 use Rattle.decider.specs.Deciding.{decision_of, marks_after, placement_after, Decidable}
-use Rattle.decisions.specs.declared.Decision.TheVariants.{Decided}
 use Rattle.decider.proofs.Deciding as Deciding
 use Rattle.marking.proofs.Marking as Marks
 use Rattle.decider.proofs.Listed as Left
@@ -49,10 +47,10 @@ pub data Reading : Type 0 where
 -- what it says: that `checker::link` answers so; that deciding answers so and leaves so, with buffers that suffice, whatever they hold, and keeps
 -- the bytes past what it sets
 abbrev pub Reads : Reading → Type 0
-Reads (link_reading b c d l) = link_answer b 0 c d ≡ Grade l
+Reads (link_reading b c d l) = link_answer b 0 c d ≡ Ok l
 Reads (book_reading b o k ms ps) =
     (marks buffer : List ℕ) → length ms ≤ length marks → 16 ≤ length buffer
-    → (decision_of b (length marks) (length buffer) ≡ Decided o k)
+    → (decision_of b (length marks) (length buffer) ≡ Ok (record { outcome = outcome_numbered o; survivors = k }))
     × (marks_after b (length buffer) marks ≡ ms ++ drop (length ms) marks)
     × (placement_after b (length marks) buffer ≡ ps ++ drop (length ps) buffer)
 

@@ -1,12 +1,12 @@
 -- Document 02, P1, "Roles under roles", sentence by sentence, of a book's bytes. Where P1 changes a sentence of document 01, the theorem stands beside
 -- that sentence: the questions in Demand1, the link in Types, the answer on a sheet in Demand2, the models in Demand3.
 -- Assumes nothing.
-use Rattle.std.specs.Prelude.{◌≡◌, ◌↔◌, List, [], ℕ, ◌+◌, ◌*◌, ◌≤◌, ◌<◌, length, get_or}
+use Rattle.std.specs.Prelude.{◌≡◌, ◌↔◌, List, [], ℕ, ◌+◌, ◌*◌, ◌≤◌, ◌<◌, length, get_or, Ok}
 use Rattle.std.proofs.Math.Path.{refl, ap}
 use Rattle.std.proofs.Common.{subst, ◌∙◌, le_antisymm, arith}
 use Rattle.std.proofs.Math.Option.{none}
 use Rattle.chain.specs.Lists.{Mem, Each, table}
-use Rattle.chain.specs.Questions.{first_no}
+use Rattle.refusals.specs.Questions.{first_no}
 use Rattle.chain.proofs.Lists.{each_mem, each-highest}
 use Rattle.semantics.specs.Roles.{RolePair, Upward, Steps}
 use Rattle.semantics.specs.Interpretations.{Grading, Interpretation}
@@ -32,7 +32,6 @@ use Rattle.elimination.specs.Survivors.{survivors_of}
 use Rattle.placement.specs.Outcome.{outcome}
 use Rattle.placement.proofs.Pairs.{with_pairs, survives_fewer, outcome_no_better}
 use Rattle.asking.specs.Asking.{link_questions, link_answer}
-use Rattle.asking.specs.declared.Answer.TheVariants.{Grade}
 use Rattle.decider.specs.Deciding.{decision_of, marks_after, placement_after, outcome_in, Decidable, listed_by}
 use Rattle.decider.proofs.Alike as Alike
 use Rattle.marking.proofs.Marking as Marks
@@ -114,7 +113,7 @@ module _ (ps : List RolePair) where
 
 -- "A link of two candidates is now the least of its own bound and those of all roles reachable upward": what `checker::link` answers
 pub link_answers_the_least : (b : List ℕ) → Accepts b → (r c d : ℕ) → first_no (link_questions b r c d) ≡ none
-    → (x : ℕ) × (link_answer b r c d ≡ Grade x) × LeastOf (Upward (book_of b).pairs r) (λ t. own_bound (book_of b).grading t c d) x
+    → (x : ℕ) × (link_answer b r c d ≡ Ok x) × LeastOf (Upward (book_of b).pairs r) (λ t. own_bound (book_of b).grading t c d) x
 link_answers_the_least b ok r c d h = (link (book_of b).grading r c d, link_answers b r c d h, link-is_least b ok r c d)
 
 module _ (b : List ℕ) (ok : Accepts b) where

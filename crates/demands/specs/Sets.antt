@@ -2,7 +2,7 @@
 -- (semantics/specs/Books), so Demand2 says of an answer on a sheet, and Demand3 of the models, what they said of claims before; a broken set is named by
 -- its own number, since `Says` counts claims.
 -- Assumes nothing.
-use Rattle.std.specs.Prelude.{◌≡◌, ◌↔◌, ◌⊎◌, List, ℕ, ◌+◌, ◌*◌, ◌≤◌, ◌<◌, length, get_or}
+use Rattle.std.specs.Prelude.{◌≡◌, ◌↔◌, ◌⊎◌, List, ℕ, ◌+◌, ◌*◌, ◌≤◌, ◌<◌, length, get_or, Ok}
 use Rattle.std.proofs.Common.{⊎_elim, arith}
 use Rattle.chain.specs.Lists.{Each}
 use Rattle.encoding.specs.Bits.{Bit}
@@ -18,7 +18,6 @@ use Rattle.book.specs.Opening.{Accepts}
 use Rattle.working.specs.Working.{nth_membership}
 use Rattle.working.specs.declared.Verdict.TheVariants.{Meets}
 use Rattle.checker.specs.Working.{worked_of, grid_after}
-use Rattle.checker.specs.declared.Worked.TheVariants.{Says as Answers}
 use Rattle.decider.specs.Deciding.{decision_of, marks_after, placement_after}
 use Rattle.semantics.proofs.Claims as Abstract
 use Rattle.book_bytes.proofs.Claims as Read
@@ -144,7 +143,7 @@ module _ (b c : List ℕ) (ok : Accepts b) (w : WrittenOut b c) where
     written_out_placed_alike = Alike.placement_alike b c ok also (Alike.same-written (book_of b) (book_of c) one_meaning)
 
     -- and beyond: a sheet "meets" the one exactly when it meets the other, and the grid is the same
-    pub written_out_meets_alike : (t : List ℕ) (g : ℕ) → (worked_of b t g ≡ Answers Meets) ↔ (worked_of c t g ≡ Answers Meets)
+    pub written_out_meets_alike : (t : List ℕ) (g : ℕ) → (worked_of b t g ≡ Ok Meets) ↔ (worked_of c t g ≡ Ok Meets)
     written_out_meets_alike t = Worked.meets_alike b c ok also (Worked.counts_written b c one_meaning) t (Worked.verdict_written b c one_meaning)
 
     pub written_out_grid_alike : (t grid : List ℕ) → grid_after b t grid ≡ grid_after c t grid

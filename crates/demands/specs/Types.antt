@@ -2,11 +2,11 @@
 -- that `counter::count`, `checker::grade` and `checker::link` answer so. Each theorem stands under the sentence that it says, and is proved by naming
 -- a law.
 -- Assumes nothing.
-use Rattle.std.specs.Prelude.{◌≡◌, ◌↔◌, List, ℕ, ◌+◌, ◌-◌, ◌^◌, ◌≤◌, ◌<◌, min, max, length}
+use Rattle.std.specs.Prelude.{◌≡◌, ◌↔◌, List, ℕ, ◌+◌, ◌-◌, ◌^◌, ◌≤◌, ◌<◌, min, max, length, Ok}
 use Rattle.std.proofs.Math.Option.{none}
 use Rattle.chain.specs.Digits.{digit}
 use Rattle.chain.specs.Lists.{Mem}
-use Rattle.chain.specs.Questions.{first_no}
+use Rattle.refusals.specs.Questions.{first_no}
 use Rattle.semantics.specs.Terms.{some, all}
 use Rattle.semantics.specs.Roles.{Upward}
 use Rattle.semantics.specs.Interpretations.{Grading, Interpretation, WellFormed}
@@ -20,7 +20,6 @@ use Rattle.types.proofs.Links as Links
 use Rattle.book.specs.Reading.{book_of}
 use Rattle.book.specs.Opening.{Accepts}
 use Rattle.counter.specs.Counting.{candidate_questions, counted_of}
-use Rattle.counter.specs.declared.Counted.TheVariants.{Candidates as Counts}
 use Rattle.book.proofs.Reading.{accepts_valid}
 use Rattle.elimination.specs.Survivors.{Sound}
 use Rattle.elimination.proofs.Survivors as Survivors
@@ -28,7 +27,6 @@ use Rattle.placement.specs.Outcome.{Unmentioned, seated_as}
 use Rattle.placement.proofs.Outcome as Outcome
 use Rattle.asking.specs.Places.{PlaceAt, place_of}
 use Rattle.asking.specs.Asking.{grade_questions, link_questions, grade_answer, link_answer}
-use Rattle.asking.specs.declared.Answer.TheVariants.{Grade}
 use Rattle.asking.proofs.Asking as Asking
 use Rattle.counter.proofs.Counting as Counting
 use Rattle.asking.proofs.Places as Places
@@ -94,13 +92,13 @@ module _ (b : List ℕ) (ok : Accepts b) where
 
 -- and so the calls answer, where no question of theirs says no
 module _ (b : List ℕ) where
-  pub count_answers : first_no (candidate_questions b) ≡ none → counted_of b ≡ Counts (candidates (book_of b).grading)
+  pub count_answers : first_no (candidate_questions b) ≡ none → counted_of b ≡ Ok (candidates (book_of b).grading)
   count_answers = Counting.counted_is _ _
 
-  pub grade_answers : (c i : ℕ) → first_no (grade_questions b c i) ≡ none → grade_answer b c i ≡ Grade (grade_in (book_of b).grading c i)
+  pub grade_answers : (c i : ℕ) → first_no (grade_questions b c i) ≡ none → grade_answer b c i ≡ Ok (grade_in (book_of b).grading c i)
   grade_answers c i = Asking.graded-is _ _
 
-  pub link_answers : (r c d : ℕ) → first_no (link_questions b r c d) ≡ none → link_answer b r c d ≡ Grade (link (book_of b).grading r c d)
+  pub link_answers : (r c d : ℕ) → first_no (link_questions b r c d) ≡ none → link_answer b r c d ≡ Ok (link (book_of b).grading r c d)
   link_answers r c d = Asking.graded-is _ _
 
 -- "A set is sound when each member meets every rule and each of its quantified terms takes exactly its grade from some member through that link.

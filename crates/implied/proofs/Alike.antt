@@ -8,9 +8,11 @@ use mathlib.Core.List.{List, [], ◌∷◌, ◌++◌}
 use Prim.Native.Nat.{ℕ, ◌+◌, ◌*◌, ◌<◌}
 use native.Mathlib.Decide.{dec_le}
 use lib.ListN.{length, get_or, drop}
-use Rattle.chain.specs.Questions.{Question, ask, first_no}
-use Rattle.chain.proofs.Questions.{first-none-append}
-use Rattle.chain.proofs.Answers.{answer_alike}
+use Rattle.std.specs.Prelude.{Ok, Err}
+use Rattle.refusals.specs.Questions.{Question, ask, first_no}
+use Rattle.refusals.specs.declared.Refusal.TheVariants as refusal
+use Rattle.refusals.proofs.Questions.{first-none-append}
+use Rattle.refusals.proofs.Answers.{checked_alike}
 use Rattle.semantics.specs.Interpretations.{Grading}
 use Rattle.semantics.specs.Books.{Book, Valid}
 use Rattle.types.specs.Candidates.{candidates, grade_in}
@@ -23,7 +25,6 @@ use Rattle.marking.proofs.Marking.{marks-same}
 use Rattle.subsumption.specs.Subsumption.{implied_table}
 use Rattle.subsumption.proofs.Sharing.{byte_by_grades, byte-renumbered}
 use Rattle.implied.specs.Implying.{implied_by, table_by, implied_questions, implied_of, table_marks_after, table_after}
-use Rattle.implied.specs.declared.Implied.TheVariants.{Refused, Survivors}
 use Rattle.implied.proofs.Implying.{table_at}
 
 pub record SameRules (B C : Book) : Type 0 where
@@ -40,7 +41,9 @@ module _ (b c : List ℕ) (ok : Accepts b) (also : Accepts c) (same : SameRules 
   -- 10, 11 and 23, by the grading
   abbrev then : (m t : ℕ) → Grading → List Question
   then m t G =
-      ask 10 (dec_le (candidates G) 16384) ∷ ask 11 (dec_le (candidates G) m) ∷ ask 23 (dec_le (length G.terms * length G.terms) t) ∷ []
+      ask refusal.Candidates (dec_le (candidates G) 16384)
+      ∷ ask refusal.Marks (dec_le (candidates G) m)
+      ∷ ask refusal.Table (dec_le (length G.terms * length G.terms) t) ∷ []
 
   questions_alike : (m t : ℕ) → first_no (implied_questions b m t) ≡ first_no (implied_questions c m t)
   unfolding Accepts few_candidates?
@@ -51,7 +54,7 @@ module _ (b c : List ℕ) (ok : Accepts b) (also : Accepts c) (same : SameRules 
   pub implied_alike : (m t : ℕ) → implied_of b m t ≡ implied_of c m t
   unfolding implied_by
   implied_alike m t =
-      answer_alike Refused _ _ (implied_questions b m t) (implied_questions c m t) (questions_alike m t) (λ _. ap (λ (xs : List ℕ). Survivors (length xs)) survivors_same)
+      checked_alike Err _ _ (implied_questions b m t) (implied_questions c m t) (questions_alike m t) (λ _. ap (λ (xs : List ℕ). Ok (length xs)) survivors_same)
 
   pub marks_alike : (t : ℕ) (marks : List ℕ) → table_marks_after b t marks ≡ table_marks_after c t marks
   marks_alike t marks =
@@ -61,7 +64,7 @@ module _ (b c : List ℕ) (ok : Accepts b) (also : Accepts c) (same : SameRules 
   pub table_alike : (m : ℕ) (table : List ℕ) → table_after b m table ≡ table_after c m table
   unfolding table_by
   table_alike m table =
-      answer_alike (λ _. table) _ _ (implied_questions b m (length table)) (implied_questions c m (length table)) (questions_alike m (length table))
+      checked_alike (λ _. table) _ _ (implied_questions b m (length table)) (implied_questions c m (length table)) (questions_alike m (length table))
       (λ _. ap₂ (λ (G : Grading) (xs : List ℕ). implied_table G xs ++ drop (length G.terms * length G.terms) table) same.grading_same survivors_same)
 
 -- ---- where no question says no

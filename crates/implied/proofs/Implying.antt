@@ -5,14 +5,18 @@ use mathlib.Core.Logic.{dite, ◌↔◌}
 use mathlib.Core.Option.{none, some}
 use mathlib.Core.List.{List, [], ◌++◌}
 use Prim.Native.Nat.{ℕ, ◌+◌, ◌*◌, ◌≤◌, ◌<◌}
+use Rattle.std.specs.Prelude.{Ok, Err}
 use native.Mathlib.Nat.{mul-suc, mul-le-mul, mul-le-mul_left}
 use native.Mathlib.Decide.{dec_le}
 use native.Mathlib.Omega.{arith}
 use lib.ListN.{length, get_or, drop, length-append, length-drop, get_or-append}
 use lib.Seq.{drop_at}
-use Rattle.chain.specs.Questions.{Question, first_no}
-use Rattle.chain.proofs.Questions.{first-none, first-both, two_before, two_first, two_second, two_none, two_both}
-use Rattle.chain.proofs.Answers.{answer-value, answer-refused, answer-number, answer_no}
+use Rattle.refusals.specs.Questions.{Question, first_no}
+use Rattle.refusals.specs.Answers.{refusal_in}
+use Rattle.refusals.specs.declared.Refusal.{Refusal}
+use Rattle.refusals.specs.declared.Refusal.TheVariants as refusal
+use Rattle.refusals.proofs.Questions.{first-none, first-both, two_before, two_first, two_second, two_none, two_both}
+use Rattle.refusals.proofs.Answers.{checked-value, checked-refused, answer_refusal, answer_no}
 use Rattle.semantics.specs.Interpretations.{Grading}
 use Rattle.semantics.specs.Books.{Book}
 use Rattle.types.specs.Candidates.{candidates}
@@ -32,8 +36,7 @@ use Rattle.elimination.specs.Marks.{marked}
 use Rattle.marking.proofs.Marking.{marked_in_lem, marks-refused, marks-are}
 use Rattle.subsumption.specs.Subsumption.{implied_byte, implied_table}
 use Rattle.subsumption.proofs.Subsumption.{length_implied, implied_at}
-use Rattle.implied.specs.Implying.{table_size, implied_by, table_by, implied_questions, implied_number, survivors_in}
-use Rattle.implied.specs.declared.Implied.TheVariants.{Refused, Survivors}
+use Rattle.implied.specs.Implying.{table_size, implied_by, table_by, implied_questions, survivors_in}
 
 -- ---- the first no
 
@@ -47,19 +50,19 @@ module _ (b : List ℕ) (m t : ℕ) where
   abbrev table? : Dec (table_size (book_of b) ≤ t)
   table? = dec_le (table_size (book_of b)) t
 
-  pub implied_before : (n : ℕ) → first_no qs ≡ some n → first_no (implied_questions b m t) ≡ some n
-  implied_before = two_before qs 11 23 marks? table?
+  pub implied_before : (r : Refusal) → first_no qs ≡ some r → first_no (implied_questions b m t) ≡ some r
+  implied_before = two_before qs refusal.Marks refusal.Table marks? table?
 
-  pub implied_11 : first_no qs ≡ none → ¬ (candidates (book_of b).grading ≤ m) → first_no (implied_questions b m t) ≡ some 11
-  implied_11 = two_first qs 11 23 marks? table?
+  pub implied_11 : first_no qs ≡ none → ¬ (candidates (book_of b).grading ≤ m) → first_no (implied_questions b m t) ≡ some refusal.Marks
+  implied_11 = two_first qs refusal.Marks refusal.Table marks? table?
 
-  pub implied_23 : first_no qs ≡ none → candidates (book_of b).grading ≤ m → ¬ (table_size (book_of b) ≤ t) → first_no (implied_questions b m t) ≡ some 23
-  implied_23 = two_second qs 11 23 marks? table?
+  pub implied_23 : first_no qs ≡ none → candidates (book_of b).grading ≤ m → ¬ (table_size (book_of b) ≤ t) → first_no (implied_questions b m t) ≡ some refusal.Table
+  implied_23 = two_second qs refusal.Marks refusal.Table marks? table?
 
   pub implied_none : first_no qs ≡ none → candidates (book_of b).grading ≤ m → table_size (book_of b) ≤ t → first_no (implied_questions b m t) ≡ none
-  implied_none = two_none qs 11 23 marks? table?
+  implied_none = two_none qs refusal.Marks refusal.Table marks? table?
 
-  pub says_23 : first_no qs ≡ none → candidates (book_of b).grading ≤ m → (first_no (implied_questions b m t) ≡ some 23) ↔ (t < table_size (book_of b))
+  pub says_23 : first_no qs ≡ none → candidates (book_of b).grading ≤ m → (first_no (implied_questions b m t) ≡ some refusal.Table) ↔ (t < table_size (book_of b))
   says_23 counted room = (
     λ e. dite table? (λ h. let z = sym (implied_none counted room h) ∙ e in let y : ◌≡◌ {A = ℕ} 0 1 = cc in absurd (omega arith)) (λ n. omega arith),
     λ l. implied_23 counted room (λ h. omega (arith, h, l)),
@@ -70,34 +73,34 @@ module _ (b : List ℕ) (m t : ℕ) where
       → Accepts b × (candidates (book_of b).grading ≤ 16384) × (candidates (book_of b).grading ≤ m) × (table_size (book_of b) ≤ t)
   unfolding Accepts
   implied_suffices e =
-      let u = two_both qs 11 23 marks? table? e in
+      let u = two_both qs refusal.Marks refusal.Table marks? table? e in
       let v = first-both (book_questions b) _ u.0 in
-      (v.0, (first-none 10 (few_candidates? (book_of b)) [] v.1).0, u.1, u.2)
+      (v.0, (first-none refusal.Candidates (few_candidates? (book_of b)) [] v.1).0, u.1, u.2)
 
 -- ---- the answer and the buffers, by it
 
 module _ (B : Book) (qs : List Question) where
   -- a refusal changes neither buffer
-  pub refused : (marks table : List ℕ) (n : ℕ) → first_no qs ≡ some n
-      → (Refused n ≡ implied_by B qs) × ((marks ≡ marks_by B qs marks) × (table ≡ table_by B qs table))
+  pub refused : (marks table : List ℕ) (r : Refusal) → first_no qs ≡ some r
+      → (Err r ≡ implied_by B qs) × ((marks ≡ marks_by B qs marks) × (table ≡ table_by B qs table))
   unfolding implied_by table_by
-  refused marks table n e =
-      (sym (answer-refused Refused _ qs n e), (sym (marks-refused B qs marks n e), sym (answer-refused (λ _. table) _ qs n e)))
+  refused marks table r e =
+      (sym (checked-refused Err _ qs r e), (sym (marks-refused B qs marks r e), sym (checked-refused (λ _. table) _ qs r e)))
 
   pub settled : (marks table : List ℕ) → first_no qs ≡ none
-      → (Survivors (length (survivors_of B)) ≡ implied_by B qs)
+      → (Ok (length (survivors_of B)) ≡ implied_by B qs)
       × ((marked_in B marks ≡ marks_by B qs marks) × (implied_table B.grading (survivors_of B) ++ drop (table_size B) table ≡ table_by B qs table))
   unfolding implied_by table_by
-  settled marks table e = (sym (answer-value Refused _ qs e), (sym (marks-are B qs marks e), sym (answer-value (λ _. table) _ qs e)))
+  settled marks table e = (sym (checked-value Err _ qs e), (sym (marks-are B qs marks e), sym (checked-value (λ _. table) _ qs e)))
 
-  pub implied_refused : (n : ℕ) → implied_by B qs ≡ Refused n → first_no qs ≡ some n
+  pub implied_refused : (r : Refusal) → implied_by B qs ≡ Err r → first_no qs ≡ some r
   unfolding implied_by
-  implied_refused = answer_no Refused _ qs implied_number (λ n. refl) refl
+  implied_refused = answer_no _ qs
 
-  -- the answer's number is the first no
-  pub implied_number-is : implied_number (implied_by B qs) ≡ first_no qs
+  -- the answer's refusal is the first no
+  pub implied_refusal : refusal_in (implied_by B qs) ≡ first_no qs
   unfolding implied_by
-  implied_number-is = answer-number Refused _ qs implied_number (λ n. refl) refl
+  implied_refusal = answer_refusal _ qs
 
   pub survivors-is : first_no qs ≡ none → survivors_in (implied_by B qs) ≡ length (survivors_of B)
   survivors-is ok = ap survivors_in (sym (settled [] [] ok).0)

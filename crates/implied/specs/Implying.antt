@@ -1,11 +1,12 @@
 -- What asking for the table of implied rules answers, and what it leaves in the marks and in the table: after the checks 1 to 9, 22, 10 and 11, 23.
 -- Document 02, P4.
 -- Assumes nothing.
-use Rattle.std.proofs.Math.Option.{Option, none, some}
-use Rattle.std.specs.Prelude.{List, [], ◌∷◌, ◌++◌, ℕ, ◌*◌, length, drop}
+use Rattle.std.specs.Prelude.{List, [], ◌∷◌, ◌++◌, ℕ, ◌*◌, length, drop, Result, Ok, Err}
 use Rattle.std.proofs.Math.Decide.{dec_le}
-use Rattle.chain.specs.Questions.{Question, ask}
-use Rattle.chain.specs.Answers.{answer, left}
+use Rattle.refusals.specs.Questions.{Question, ask}
+use Rattle.refusals.specs.Answers.{answer, left}
+use Rattle.refusals.specs.declared.Refusal.{Refusal}
+use Rattle.refusals.specs.declared.Refusal.TheVariants as refusal
 use Rattle.semantics.specs.Books.{Book}
 use Rattle.types.specs.Candidates.{candidates}
 use Rattle.book.specs.Reading.{book_of}
@@ -13,8 +14,6 @@ use Rattle.counter.specs.Counting.{candidate_questions}
 use Rattle.elimination.specs.Survivors.{survivors_of}
 use Rattle.marking.specs.Marking.{marks_by}
 use Rattle.subsumption.specs.Subsumption.{implied_table}
-use Rattle.implied.specs.declared.Implied.{Implied}
-use Rattle.implied.specs.declared.Implied.TheVariants.{Refused, Survivors}
 
 -- "the square of the term count"
 abbrev pub table_size : Book → ℕ
@@ -24,8 +23,8 @@ table_size B = length B.grading.terms * length B.grading.terms
 
 module _ (B : Book) (qs : List Question) where
   -- "returns the survivor count"
-  unfoldable pub implied_by : Implied
-  implied_by = answer Refused (Survivors (length (survivors_of B))) qs
+  unfoldable pub implied_by : Result ℕ Refusal
+  implied_by = answer (length (survivors_of B)) qs
 
   -- "fills one byte per ordered pair of terms, row by row"; the bytes past them are kept
   unfoldable pub table_by : (table : List ℕ) → List ℕ
@@ -36,9 +35,11 @@ module _ (B : Book) (qs : List Question) where
 module _ (b : List ℕ) where
   -- with m mark bytes and t table bytes: "23 when the table buffer is shorter than the square of the term count, after 11"
   abbrev pub implied_questions : (m t : ℕ) → List Question
-  implied_questions m t = candidate_questions b ++ (ask 11 (dec_le (candidates (book_of b).grading) m) ∷ ask 23 (dec_le (table_size (book_of b)) t) ∷ [])
+  implied_questions m t =
+      candidate_questions b
+      ++ (ask refusal.Marks (dec_le (candidates (book_of b).grading) m) ∷ ask refusal.Table (dec_le (table_size (book_of b)) t) ∷ [])
 
-  abbrev pub implied_of : (m t : ℕ) → Implied
+  abbrev pub implied_of : (m t : ℕ) → Result ℕ Refusal
   implied_of m t = implied_by (book_of b) (implied_questions m t)
 
   -- "A call without placement sets the marks"
@@ -48,12 +49,7 @@ module _ (b : List ℕ) where
   abbrev pub table_after : (m : ℕ) → List ℕ → List ℕ
   table_after m table = table_by (book_of b) (implied_questions m (length table)) table
 
--- the document's number for each answer
-abbrev pub implied_number : Implied → Option ℕ
-implied_number (Refused n) = some n
-implied_number (Survivors k) = none
-
--- its number of survivors; 0 for a refusal
-abbrev pub survivors_in : Implied → ℕ
-survivors_in (Refused n) = 0
-survivors_in (Survivors k) = k
+-- an answer's number of survivors; 0 for a refusal
+abbrev pub survivors_in : Result ℕ Refusal → ℕ
+survivors_in (Err r) = 0
+survivors_in (Ok k) = k

@@ -10,9 +10,10 @@ use native.Mathlib.Omega.{arith}
 use lib.ListN.{length, get_or, take, drop, length-append, length-drop, get_or-append}
 use lib.Seq.{take_at, drop_at, get_or-drop}
 use Rattle.chain.specs.Lists.{Mem, any?}
-use Rattle.chain.specs.Questions.{Question, first_no}
 use Rattle.chain.proofs.Lists.{get_or-table, ascending_same}
-use Rattle.chain.proofs.Answers.{answer-value, answer-refused, answer_alike}
+use Rattle.refusals.specs.Questions.{Question, first_no}
+use Rattle.refusals.proofs.Answers.{checked-value, checked-refused, checked_alike}
+use Rattle.refusals.specs.declared.Refusal.{Refusal}
 use Rattle.semantics.specs.Books.{Book}
 use Rattle.types.specs.Candidates.{candidates}
 use Rattle.elimination.specs.Survivors.{survivors_of}
@@ -36,9 +37,9 @@ module _ (B : Book) (count : ℕ) (e : candidates B.grading ≡ count) (marks : 
 
 module _ (B : Book) (qs : List Question) (marks : List ℕ) where
   -- a refusal changes none
-  pub marks-refused : (n : ℕ) → first_no qs ≡ some n → marks_by B qs marks ≡ marks
+  pub marks-refused : (r : Refusal) → first_no qs ≡ some r → marks_by B qs marks ≡ marks
   unfolding marks_by
-  marks-refused = answer-refused (λ _. marks) _ qs
+  marks-refused = checked-refused (λ _. marks) _ qs
 
   module _ (ok : first_no qs ≡ none) where
     abbrev k : ℕ
@@ -49,7 +50,7 @@ module _ (B : Book) (qs : List Question) (marks : List ℕ) where
 
     pub marks-are : after ≡ marked_in B marks
     unfolding marks_by
-    marks-are = answer-value (λ _. marks) _ qs ok
+    marks-are = checked-value (λ _. marks) _ qs ok
 
     pub listed-are : marked after k ≡ survivors_of B
     listed-are = ap (λ (l : List ℕ). marked l k) marks-are ∙ marked_in_lem B k refl marks
@@ -111,5 +112,5 @@ pub marks-same : (B C : Book) (qs rs : List Question) → candidates B.grading �
     → first_no qs ≡ first_no rs → (marks : List ℕ) → marks_by B qs marks ≡ marks_by C rs marks
 unfolding marks_by
 marks-same B C qs rs candidates_same survivors_same e marks =
-    answer_alike (λ _. marks) _ _ qs rs e
+    checked_alike (λ _. marks) _ _ qs rs e
     (λ _. ap₂ (λ (xs : List ℕ) (n : ℕ). marks_of xs n ++ drop n marks) survivors_same candidates_same)

@@ -1,8 +1,8 @@
 -- What marking the survivors sets, of an abstract book, and what a call leaves in the marks. Document 01, "Types and links".
 -- Assumes nothing.
 use Rattle.std.specs.Prelude.{List, ◌++◌, ℕ, drop}
-use Rattle.chain.specs.Questions.{Question}
-use Rattle.chain.specs.Answers.{left}
+use Rattle.refusals.specs.Questions.{Question}
+use Rattle.refusals.specs.Answers.{left}
 use Rattle.semantics.specs.Books.{Book}
 use Rattle.types.specs.Candidates.{candidates}
 use Rattle.elimination.specs.Survivors.{survivors_of}

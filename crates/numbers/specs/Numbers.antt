@@ -1,23 +1,15 @@
 -- The answers as numbers, which is how callers in C get them: a refusal is its number, with 0 for everything else, and in any other answer the
 -- refusal is 0. `Refusals` says that the two cannot be confused.
 -- Assumes nothing.
-use Rattle.std.specs.Prelude.{ℕ}
-use Rattle.book.specs.declared.Opened.{Opened}
-use Rattle.book.specs.declared.Opened.TheVariants.{Refused, Accepted}
-use Rattle.counter.specs.declared.Counted.{Counted}
-use Rattle.counter.specs.declared.Counted.TheVariants.{Refused as NotCounted, Candidates}
+use Rattle.std.specs.Prelude.{ℕ, Result, Ok, Err}
+use Rattle.refusals.specs.Answers.{refusal_in}
+use Rattle.refusals.specs.Questions.{or_zero}
+use Rattle.refusals.specs.Refusals.{number_of}
+use Rattle.refusals.specs.declared.Refusal.{Refusal}
+use Rattle.decisions.specs.Decided.{outcome_number}
 use Rattle.decisions.specs.declared.Decision.{Decision}
-use Rattle.decisions.specs.declared.Decision.TheVariants.{Refused as NotDecided, Decided}
-use Rattle.implied.specs.declared.Implied.{Implied}
-use Rattle.implied.specs.declared.Implied.TheVariants.{Refused as NotImplied, Survivors}
-use Rattle.written.specs.declared.Written.{Written}
-use Rattle.written.specs.declared.Written.TheVariants.{Refused as NotWritten, Sheet}
 use Rattle.working.specs.declared.Verdict.{Verdict}
 use Rattle.working.specs.declared.Verdict.TheVariants.{Meets, BreaksRule, BreaksPair, BreaksMembership, BreaksLink}
-use Rattle.checker.specs.declared.Worked.{Worked}
-use Rattle.checker.specs.declared.Worked.TheVariants.{Refused as NotWorked, Says}
-use Rattle.asking.specs.declared.Answer.{Answer}
-use Rattle.asking.specs.declared.Answer.TheVariants.{Refused as NotGraded, Grade}
 use Rattle.numbers.specs.declared.CountedNumbers.{CountedNumbers}
 use Rattle.numbers.specs.declared.DecidedNumbers.{DecidedNumbers}
 use Rattle.numbers.specs.declared.ImpliedNumbers.{ImpliedNumbers}
@@ -25,25 +17,24 @@ use Rattle.numbers.specs.declared.WrittenNumbers.{WrittenNumbers}
 use Rattle.numbers.specs.declared.WorkedNumbers.{WorkedNumbers}
 use Rattle.numbers.specs.declared.GradedNumbers.{GradedNumbers}
 
-abbrev pub checked_number : Opened → ℕ
-checked_number (Refused n) = n
-checked_number (Accepted s) = 0
+abbrev pub checked_number : {A : Type 0} → Result A Refusal → ℕ
+checked_number a = or_zero (refusal_in a)
 
-abbrev pub counted_numbers : Counted → CountedNumbers
-counted_numbers (NotCounted n) = record { refusal = n; candidates = 0 }
-counted_numbers (Candidates k) = record { refusal = 0; candidates = k }
+abbrev pub counted_numbers : Result ℕ Refusal → CountedNumbers
+counted_numbers (Err r) = record { refusal = number_of r; candidates = 0 }
+counted_numbers (Ok k) = record { refusal = 0; candidates = k }
 
-abbrev pub decided_numbers : Decision → DecidedNumbers
-decided_numbers (NotDecided n) = record { refusal = n; outcome = 0; survivors = 0 }
-decided_numbers (Decided o k) = record { refusal = 0; outcome = o; survivors = k }
+abbrev pub decided_numbers : Result Decision Refusal → DecidedNumbers
+decided_numbers (Err r) = record { refusal = number_of r; outcome = 0; survivors = 0 }
+decided_numbers (Ok d) = record { refusal = 0; outcome = outcome_number d.outcome; survivors = d.survivors }
 
-abbrev pub implied_numbers : Implied → ImpliedNumbers
-implied_numbers (NotImplied n) = record { refusal = n; survivors = 0 }
-implied_numbers (Survivors k) = record { refusal = 0; survivors = k }
+abbrev pub implied_numbers : Result ℕ Refusal → ImpliedNumbers
+implied_numbers (Err r) = record { refusal = number_of r; survivors = 0 }
+implied_numbers (Ok k) = record { refusal = 0; survivors = k }
 
-abbrev pub written_numbers : Written → WrittenNumbers
-written_numbers (NotWritten n) = record { refusal = n; length = 0 }
-written_numbers (Sheet l) = record { refusal = 0; length = l }
+abbrev pub written_numbers : Result ℕ Refusal → WrittenNumbers
+written_numbers (Err r) = record { refusal = number_of r; length = 0 }
+written_numbers (Ok l) = record { refusal = 0; length = l }
 
 -- the verdict's own number, then the number of the rule, pair or claim broken, for a rule the lowest element, and for a pair the lowest first and then
 -- second one
@@ -54,10 +45,10 @@ verdict_numbers (BreaksPair k e f) = record { refusal = 0; verdict = 4; number =
 verdict_numbers (BreaksMembership k) = record { refusal = 0; verdict = 2; number = k; element = 0; second = 0 }
 verdict_numbers (BreaksLink k) = record { refusal = 0; verdict = 3; number = k; element = 0; second = 0 }
 
-abbrev pub worked_numbers : Worked → WorkedNumbers
-worked_numbers (NotWorked n) = record { refusal = n; verdict = 0; number = 0; element = 0; second = 0 }
-worked_numbers (Says v) = verdict_numbers v
+abbrev pub worked_numbers : Result Verdict Refusal → WorkedNumbers
+worked_numbers (Err r) = record { refusal = number_of r; verdict = 0; number = 0; element = 0; second = 0 }
+worked_numbers (Ok v) = verdict_numbers v
 
-abbrev pub graded_numbers : Answer → GradedNumbers
-graded_numbers (NotGraded n) = record { refusal = n; grade = 0 }
-graded_numbers (Grade g) = record { refusal = 0; grade = g }
+abbrev pub graded_numbers : Result ℕ Refusal → GradedNumbers
+graded_numbers (Err r) = record { refusal = number_of r; grade = 0 }
+graded_numbers (Ok g) = record { refusal = 0; grade = g }

@@ -2,17 +2,13 @@
 
 #![tactic(auto)]
 
-ghost use Rattle.std.specs.Prelude.{◌≡◌, length};
+ghost use Rattle.std.specs.Prelude.{◌≡◌};
 ghost use Rattle.numbers.specs.Numbers.{checked_number, counted_numbers, decided_numbers, implied_numbers, written_numbers, verdict_numbers, worked_numbers, graded_numbers};
 
-use asking::Answer;
-use book::Opened;
-use checker::Worked;
-use counter::Counted;
+use book::Book;
 use decisions::Decision;
-use implied::Implied;
+use refusals::Refusal;
 use working::Verdict;
-use written::Written;
 
 // In each struct the refusal is 0 if the call is answered, and else the other fields are 0.
 
@@ -66,139 +62,153 @@ pub struct GradedNumbers {
 
 // ---- answers as numbers
 
-pub fn checked_number(a: Opened) -> u8
-    ensures { result ≡ checked_number a }
+pub fn checked_number(a: Result<Book<'_>, Refusal>) -> u8
+    ensures { result ≡ checked_number a.entry }
 {
     match a {
-        Opened::Refused(n) => n,
-        Opened::Accepted(_) => 0,
+        Ok(_) => 0,
+        Err(r) => r.number(),
     }
 }
 
-pub fn counted_numbers(a: Counted) -> CountedNumbers
-    ensures { result ≡ counted_numbers a }
-{
-    match a {
-        Counted::Refused(n) => CountedNumbers {
-            refusal: n,
-            candidates: 0,
-        },
-        Counted::Candidates(candidates) => CountedNumbers {
-            refusal: 0,
-            candidates,
-        },
+impl From<Result<u64, Refusal>> for CountedNumbers {
+    ghost from_gives = { λ a n. n ≡ counted_numbers a };
+
+    fn from(a: Result<u64, Refusal>) -> Self {
+        match a {
+            Ok(candidates) => CountedNumbers {
+                refusal: 0,
+                candidates,
+            },
+            Err(r) => CountedNumbers {
+                refusal: r.number(),
+                candidates: 0,
+            },
+        }
     }
 }
 
-pub fn decided_numbers(a: Decision) -> DecidedNumbers
-    ensures { result ≡ decided_numbers a }
-{
-    match a {
-        Decision::Refused(n) => DecidedNumbers {
-            refusal: n,
-            outcome: 0,
-            survivors: 0,
-        },
-        Decision::Decided(outcome, survivors) => DecidedNumbers {
-            refusal: 0,
-            outcome,
-            survivors,
-        },
+impl From<Result<Decision, Refusal>> for DecidedNumbers {
+    ghost from_gives = { λ a n. n ≡ decided_numbers a };
+
+    fn from(a: Result<Decision, Refusal>) -> Self {
+        match a {
+            Ok(d) => DecidedNumbers {
+                refusal: 0,
+                outcome: d.outcome.number(),
+                survivors: d.survivors,
+            },
+            Err(r) => DecidedNumbers {
+                refusal: r.number(),
+                outcome: 0,
+                survivors: 0,
+            },
+        }
     }
 }
 
-pub fn implied_numbers(a: Implied) -> ImpliedNumbers
-    ensures { result ≡ implied_numbers a }
-{
-    match a {
-        Implied::Refused(n) => ImpliedNumbers {
-            refusal: n,
-            survivors: 0,
-        },
-        Implied::Survivors(survivors) => ImpliedNumbers {
-            refusal: 0,
-            survivors,
-        },
+impl From<Result<usize, Refusal>> for ImpliedNumbers {
+    ghost from_gives = { λ a n. n ≡ implied_numbers a };
+
+    fn from(a: Result<usize, Refusal>) -> Self {
+        match a {
+            Ok(survivors) => ImpliedNumbers {
+                refusal: 0,
+                survivors,
+            },
+            Err(r) => ImpliedNumbers {
+                refusal: r.number(),
+                survivors: 0,
+            },
+        }
     }
 }
 
-pub fn written_numbers(a: Written) -> WrittenNumbers
-    ensures { result ≡ written_numbers a }
-{
-    match a {
-        Written::Refused(n) => WrittenNumbers {
-            refusal: n,
-            length: 0,
-        },
-        Written::Sheet(length) => WrittenNumbers { refusal: 0, length },
+impl From<Result<usize, Refusal>> for WrittenNumbers {
+    ghost from_gives = { λ a n. n ≡ written_numbers a };
+
+    fn from(a: Result<usize, Refusal>) -> Self {
+        match a {
+            Ok(length) => WrittenNumbers { refusal: 0, length },
+            Err(r) => WrittenNumbers {
+                refusal: r.number(),
+                length: 0,
+            },
+        }
     }
 }
 
-pub fn verdict_numbers(v: Verdict) -> WorkedNumbers
-    ensures { result ≡ verdict_numbers v }
-{
-    match v {
-        Verdict::Meets => WorkedNumbers {
-            refusal: 0,
-            verdict: 0,
-            number: 0,
-            element: 0,
-            second: 0,
-        },
-        Verdict::BreaksRule { rule, element } => WorkedNumbers {
-            refusal: 0,
-            verdict: 1,
-            number: rule,
-            element,
-            second: 0,
-        },
-        Verdict::BreaksPair { pair, from, to } => WorkedNumbers {
-            refusal: 0,
-            verdict: 4,
-            number: pair,
-            element: from,
-            second: to,
-        },
-        Verdict::BreaksMembership(number) => WorkedNumbers {
-            refusal: 0,
-            verdict: 2,
-            number,
-            element: 0,
-            second: 0,
-        },
-        Verdict::BreaksLink(number) => WorkedNumbers {
-            refusal: 0,
-            verdict: 3,
-            number,
-            element: 0,
-            second: 0,
-        },
+impl From<Verdict> for WorkedNumbers {
+    ghost from_gives = { λ v n. n ≡ verdict_numbers v };
+
+    fn from(v: Verdict) -> Self {
+        match v {
+            Verdict::Meets => WorkedNumbers {
+                refusal: 0,
+                verdict: 0,
+                number: 0,
+                element: 0,
+                second: 0,
+            },
+            Verdict::BreaksRule { rule, element } => WorkedNumbers {
+                refusal: 0,
+                verdict: 1,
+                number: rule,
+                element,
+                second: 0,
+            },
+            Verdict::BreaksPair { pair, from, to } => WorkedNumbers {
+                refusal: 0,
+                verdict: 4,
+                number: pair,
+                element: from,
+                second: to,
+            },
+            Verdict::BreaksMembership(number) => WorkedNumbers {
+                refusal: 0,
+                verdict: 2,
+                number,
+                element: 0,
+                second: 0,
+            },
+            Verdict::BreaksLink(number) => WorkedNumbers {
+                refusal: 0,
+                verdict: 3,
+                number,
+                element: 0,
+                second: 0,
+            },
+        }
     }
 }
 
-pub fn worked_numbers(a: Worked) -> WorkedNumbers
-    ensures { result ≡ worked_numbers a }
-{
-    match a {
-        Worked::Refused(n) => WorkedNumbers {
-            refusal: n,
-            verdict: 0,
-            number: 0,
-            element: 0,
-            second: 0,
-        },
-        Worked::Says(v) => verdict_numbers(v),
+impl From<Result<Verdict, Refusal>> for WorkedNumbers {
+    ghost from_gives = { λ a n. n ≡ worked_numbers a };
+
+    fn from(a: Result<Verdict, Refusal>) -> Self {
+        match a {
+            Ok(v) => WorkedNumbers::from(v),
+            Err(r) => WorkedNumbers {
+                refusal: r.number(),
+                verdict: 0,
+                number: 0,
+                element: 0,
+                second: 0,
+            },
+        }
     }
 }
 
-pub fn graded_numbers(a: Answer) -> GradedNumbers
-    ensures { result ≡ graded_numbers a }
-{
-    match a {
-        Answer::Refused(n) => GradedNumbers {
-            refusal: n,
-            grade: 0,
-        },
-        Answer::Grade(grade) => GradedNumbers { refusal: 0, grade },
+impl From<Result<u8, Refusal>> for GradedNumbers {
+    ghost from_gives = { λ a n. n ≡ graded_numbers a };
+
+    fn from(a: Result<u8, Refusal>) -> Self {
+        match a {
+            Ok(grade) => GradedNumbers { refusal: 0, grade },
+            Err(r) => GradedNumbers {
+                refusal: r.number(),
+                grade: 0,
+            },
+        }
     }
 }

@@ -1,6 +1,6 @@
-// An opened book remembers the bytes it was opened from, so later questions need no second opening. Each question takes it apart and calls
-// the function on bytes and sections; what it answers and writes is what the call on bytes answers and writes. No check of the book
-// is made again: a question requires `Right`, which says that they all said yes and that these are the book's sections. `book::open` gives it.
+// An opened book remembers the bytes it was opened from, so later questions need no second opening. Each question calls the function on an accepted
+// book; what it answers and writes is what the call on bytes answers and writes. No check of the book is made again: a question requires `Right`, which
+// says that they all said yes and that these are the book's sections. `book::open` gives it.
 
 #![tactic(auto)]
 
@@ -13,14 +13,12 @@ ghost use Rattle.decider.specs.Deciding.{decision_of, marks_after, placement_aft
 ghost use Rattle.implied.specs.Implying.{implied_of, table_marks_after, table_after};
 ghost use Rattle.written.specs.Writing.{written_of, sheet_after};
 
-use asking::Answer;
-use checker::Worked;
-use counter::Counted;
 use decisions::Decision;
-use implied::Implied;
 use layout::Sections;
-use written::Written;
+use refusals::Refusal;
+use working::Verdict;
 
+// Not `book::Book`: the documents promise a caller of `hold` that it asks for nothing, and the questions then for `Right`.
 #[derive(Clone, Copy)]
 pub struct Book<'a> {
     pub bytes: &'a [u8],
@@ -35,57 +33,76 @@ pub fn hold<'a>(bytes: &'a [u8], sections: Sections) -> Book<'a>
 }
 
 impl<'a> Book<'a> {
+    // The same book, as one that was accepted.
+    fn accepted(self) -> book::Book<'a>
+        requires { Right self.bytes.now self.sections }
+        ensures { result.bytes.now ≡ self.entry.bytes.now }
+    {
+        book::Book {
+            bytes: self.bytes,
+            sections: self.sections,
+        }
+    }
+
     // The number of candidates.
-    pub fn count(self) -> Counted
+    pub fn count(self) -> Result<u64, Refusal>
         requires { Right self.bytes.now self.sections }
         ensures { result ≡ counted_of self.entry.bytes.now }
     {
-        counter::count_in(self.bytes, self.sections)
+        counter::count_in(self.accepted())
     }
 
     // The grade of term `i` in candidate `c`.
-    pub fn grade(self, c: usize, i: usize) -> Answer
+    pub fn grade(self, c: usize, i: usize) -> Result<u8, Refusal>
         requires { Right self.bytes.now self.sections }
         ensures { result ≡ grade_answer self.entry.bytes.now c i }
     {
-        asking::grade_in(self.bytes, self.sections, c, i)
+        asking::grade_in(self.accepted(), c, i)
     }
 
     // The link from candidate `c` to candidate `e` for a role.
-    pub fn link(self, role: u8, c: usize, e: usize) -> Answer
+    pub fn link(self, role: u8, c: usize, e: usize) -> Result<u8, Refusal>
         requires { Right self.bytes.now self.sections }
         ensures { result ≡ link_answer self.entry.bytes.now role c e }
     {
-        asking::link_in(self.bytes, self.sections, role, c, e)
+        asking::link_in(self.accepted(), role, c, e)
     }
 
     // Works out a sheet.
-    pub fn work_out<'b, 'c>(self, sheet: &'b [u8], grid: &'c mut [u8]) -> Worked
+    pub fn work_out<'b, 'c>(self, sheet: &'b [u8], grid: &'c mut [u8]) -> Result<Verdict, Refusal>
         requires { Right self.bytes.now self.sections }
         ensures value { result ≡ worked_of self.entry.bytes.now sheet.now (length grid.old) }
         ensures grid_after { grid.new ≡ grid_after self.entry.bytes.now sheet.now grid.old }
     {
-        checker::work_in(self.bytes, self.sections, sheet, grid)
+        checker::work_in(self.accepted(), sheet, grid)
     }
 
     // Decides.
-    pub fn decide<'b, 'c>(self, marks: &'b mut [u8], placement: &'c mut [u8]) -> Decision
+    pub fn decide<'b, 'c>(
+        self,
+        marks: &'b mut [u8],
+        placement: &'c mut [u8],
+    ) -> Result<Decision, Refusal>
         requires { Right self.bytes.now self.sections }
         ensures value { result ≡ decision_of self.entry.bytes.now (length marks.old) (length placement.old) }
         ensures marks_after { marks.new ≡ marks_after self.entry.bytes.now (length placement.old) marks.old }
         ensures placement_after { placement.new ≡ placement_after self.entry.bytes.now (length marks.old) placement.old }
     {
-        decider::decide_in(self.bytes, self.sections, marks, placement)
+        decider::decide_in(self.accepted(), marks, placement)
     }
 
     // The table of implied rules.
-    pub fn implied_rules<'b, 'c>(self, marks: &'b mut [u8], table: &'c mut [u8]) -> Implied
+    pub fn implied_rules<'b, 'c>(
+        self,
+        marks: &'b mut [u8],
+        table: &'c mut [u8],
+    ) -> Result<usize, Refusal>
         requires { Right self.bytes.now self.sections }
         ensures value { result ≡ implied_of self.entry.bytes.now (length marks.old) (length table.old) }
         ensures marks_after { marks.new ≡ table_marks_after self.entry.bytes.now (length table.old) marks.old }
         ensures table_after { table.new ≡ table_after self.entry.bytes.now (length marks.old) table.old }
     {
-        implied::implied_in(self.bytes, self.sections, marks, table)
+        implied::implied_in(self.accepted(), marks, table)
     }
 
     // Decides, and writes the sheet of the model.
@@ -94,14 +111,14 @@ impl<'a> Book<'a> {
         marks: &'b mut [u8],
         placement: &'c mut [u8],
         sheet: &'d mut [u8],
-    ) -> Written
+    ) -> Result<usize, Refusal>
         requires { Right self.bytes.now self.sections }
         ensures value { result ≡ written_of self.entry.bytes.now (length marks.old) (length placement.old) (length sheet.old) }
         ensures marks_after { marks.new ≡ marks_after self.entry.bytes.now (length placement.old) marks.old }
         ensures placement_after { placement.new ≡ placement_after self.entry.bytes.now (length marks.old) placement.old }
         ensures sheet_after { sheet.new ≡ sheet_after self.entry.bytes.now (length marks.old) (length placement.old) sheet.old }
     {
-        writer::write_in(self.bytes, self.sections, marks, placement, sheet)
+        writer::write_in(self.accepted(), marks, placement, sheet)
     }
 }
 
@@ -111,7 +128,7 @@ pub fn decide<'a, 'b, 'c>(
     sections: Sections,
     marks: &'b mut [u8],
     placement: &'c mut [u8],
-) -> Decision
+) -> Result<Decision, Refusal>
     requires { Right bytes.now sections }
     ensures value { result ≡ decision_of bytes.now (length marks.old) (length placement.old) }
     ensures marks_after { marks.new ≡ marks_after bytes.now (length placement.old) marks.old }

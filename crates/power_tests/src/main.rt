@@ -3,9 +3,8 @@
 #![tactic(auto)]
 
 use reports::tally;
-use reports::tally::{Tally, close, say, say_count, say_number};
+use reports::tally::{Tally, close};
 use std::io;
-use std::num::wrapping_add_u64;
 
 // The most places that can be asked for: a loop that went through them all would not end.
 const ANY_PLACES: usize = usize::MAX;
@@ -47,7 +46,7 @@ fn with_chain(mut row: Row, steps: u8, places: usize) -> Row {
     let cases = row.cases;
     row.cases = tally::judge(cases, right(answer, steps, places));
     if answer.is_some() {
-        row.exact = wrapping_add_u64(row.exact, 1);
+        row.exact = row.exact.wrapping_add(1);
     }
     row
 }
@@ -67,9 +66,7 @@ fn row_of(places: usize) -> Row {
 // Prints one number of places, with how many powers are exact, and adds its cases.
 fn with_row(rt: &impl Print, total: Tally, places: usize) -> io::Result<Tally> {
     let row = row_of(places);
-    say_number(rt, places as u64)?;
-    say_count(rt, b" places:", row.exact)?;
-    say(rt, b" exact,")?;
+    print!(rt; "{places} places: {} exact,", row.exact)?;
     close(rt, total, b"", row.cases)
 }
 

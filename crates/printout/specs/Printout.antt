@@ -4,7 +4,9 @@ use Rattle.std.proofs.Math.Logic.{ite}
 use Rattle.std.proofs.Math.Option.{Option, none, some}
 use Rattle.std.specs.Prelude.{List, [], ◌++◌, ℕ, length}
 use Rattle.std.proofs.Math.Decide.{ℕ_discrete}
-use Rattle.chain.specs.Questions.{first_no}
+use Rattle.refusals.specs.Questions.{first_no}
+use Rattle.refusals.specs.Refusals.{number_of}
+use Rattle.refusals.specs.declared.Refusal.{Refusal}
 use Rattle.semantics.specs.Books.{Book, individuals}
 use Rattle.grades.specs.Rows.{row_of}
 use Rattle.book.specs.Reading.{book_of}
@@ -27,9 +29,9 @@ decided_lines B =
     ++ ite {C = List ℕ} (ℕ_discrete (outcome B) 1) (individual_lines (placed_at (placement B)) (individuals B)) [])
 
 -- by the first check that says no
-abbrev pub printed_by : Option ℕ → Book → List ℕ
+abbrev pub printed_by : Option Refusal → Book → List ℕ
 printed_by none B = decided_lines B
-printed_by (some n) B = refused_line n
+printed_by (some r) B = refused_line (number_of r)
 
 -- of a book's bytes: the program's buffers are large enough, so the checks are 1 to 9, 22 and 10
 unfoldable pub printout_of : List ℕ → List ℕ

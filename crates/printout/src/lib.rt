@@ -10,12 +10,14 @@ ghost use Rattle.gradings.specs.Gradings.{grading};
 ghost use Rattle.sections.specs.Terms.{term_count, terms_of, TermsRight};
 ghost use Rattle.grades.specs.Rows.{row_of};
 ghost use Rattle.encoding.specs.Words.{word_at};
+ghost use Rattle.refusals.specs.Refusals.{number_of};
 ghost use Rattle.elimination.specs.Marks.{marked?};
 ghost use Rattle.printout.specs.Text.{digit_byte, decimal, Added};
 ghost use Rattle.printout.specs.Lines.{newline, refused_line, outcome_line, spaced, type_line, type_lines, individual_line, individual_lines};
 
 use grades::Grader;
 use gradings::Logic;
+use refusals::Refusal;
 
 // Text in a buffer: its first `end` bytes.
 #[derive(Drop)]
@@ -98,15 +100,16 @@ impl<'a> Text<'a> {
 
     // ---- the refusal and the outcome
 
-    pub fn refused_line(&mut self, n: u8)
+    pub fn refused_line(&mut self, r: Refusal)
         requires { self.old.end + 192 ≤ length self.old.buffer.now }
-        ensures added { Added self.old.buffer.now self.old.end (refused_line n) self.new.buffer.now self.new.end }
+        ensures added { Added self.old.buffer.now self.old.end (refused_line (number_of r)) self.new.buffer.now self.new.end }
         ensures upper_bound { self.new.end ≤ self.old.end + 192 }
     {
-        self.put_labelled(b"refused ", usize::from(n));
+        self.put_labelled(b"refused ", usize::from(r.number()));
         self.put_newline();
     }
 
+    // The outcome by its number: this crate stands below deciding, and knows no decision.
     pub fn outcome_line(&mut self, outcome: u8, survivors: usize)
         requires { self.old.end + 192 ≤ length self.old.buffer.now }
         ensures added { Added self.old.buffer.now self.old.end (outcome_line outcome survivors) self.new.buffer.now self.new.end }

@@ -1,8 +1,6 @@
 // Writes books: a head from the counts of the sections, then the bodies, record by record.
 ghost use Rattle.std.specs.Prelude.{◌≡◌, length};
 
-use reports::numbers::wide;
-
 // Room for every book of the cases, of which the longest has 983 bytes.
 pub fn blank() -> [u8; 1024]
     ensures { 1024 ≡ length result }
@@ -40,11 +38,11 @@ fn four(
     memberships: u8,
     links: u8,
 ) -> usize {
-    let rules_at = wide(start) + 3 * wide(terms);
-    let memberships_at = rules_at + 2 * wide(rules);
-    let links_at = memberships_at + 4 * wide(memberships);
+    let rules_at = usize::from(start) + 3 * usize::from(terms);
+    let memberships_at = rules_at + 2 * usize::from(rules);
+    let links_at = memberships_at + 4 * usize::from(memberships);
     let mut at = pair(b, 0, edition, steps);
-    at = entry(b, at, wide(start), terms);
+    at = entry(b, at, usize::from(start), terms);
     at = entry(b, at, rules_at, rules);
     at = entry(b, at, memberships_at, memberships);
     entry(b, at, links_at, links)
@@ -65,8 +63,8 @@ pub fn ranked_head(
     links: u8,
     pairs: u8,
 ) -> usize {
-    let claims_at = 22 + 3 * wide(terms) + 2 * wide(rules);
-    let pairs_at = claims_at + 4 * wide(memberships) + 4 * wide(links);
+    let claims_at = 22 + 3 * usize::from(terms) + 2 * usize::from(rules);
+    let pairs_at = claims_at + 4 * usize::from(memberships) + 4 * usize::from(links);
     let at = four(b, 2, steps, 22, terms, rules, memberships, links);
     entry(b, at, pairs_at, pairs)
 }

@@ -1,6 +1,6 @@
 // Cases written by hand from documents 01 and 02: what the book is made of and, after the arrow, the number of the first check that says no, or 0 and
 // the number of candidates.
-use crate::answers::Answer;
+use crate::answers::answered;
 use crate::books::blank;
 use crate::reader::expect;
 use crate::recipes::{Recipe, run};
@@ -18,7 +18,7 @@ fn written(
 ) -> io::Result<Tally> {
     let mut b = blank();
     let length = text::write(&mut b, book);
-    expect(rt, t, &b, length, Answer { number, candidates })
+    expect(rt, t, &b, length, answered(number, candidates))
 }
 
 // Readings on file: the printed book, the same with N 1, no terms or claims.

@@ -1,11 +1,9 @@
 // The reader under test, asked by both of its calls.
 ghost use Rattle.std.specs.Prelude.{◌<◌};
 
-use crate::answers::{Answer, accepted, judge, refused};
-use book::Opened;
-use counter::Counted;
+use crate::answers::{Answer, judge};
 use layout::Sections;
-use reports::numbers::wide;
+use refusals::Refusal;
 use reports::tally::Tally;
 use reports::text::byte;
 use std::io;
@@ -17,7 +15,7 @@ const APART: u8 = 99;
 fn two(b: &[u8], at: usize) -> usize
     requires { at < 1000 }
 {
-    wide(byte(b, at)) * 256 + wide(byte(b, at + 1))
+    usize::from(byte(b, at)) * 256 + usize::from(byte(b, at + 1))
 }
 
 // The pairs of edition 2 are the stretch that the fifth entry names; edition 1 has none, at the end.
@@ -39,31 +37,33 @@ fn named(b: &[u8], s: Sections) -> bool {
         && s.end == b.len()
 }
 
-fn steps(b: &[u8], s: Sections) -> bool {
-    1 < b.len() && s.steps == b[1]
+fn is_read(b: &[u8], s: Sections) -> bool {
+    named(b, s) && 1 < b.len() && s.steps == b[1]
 }
 
-fn after_refusal(b: &[u8], number: u8) -> Answer {
-    match counter::count(b) {
-        Counted::Refused(n) => refused(if n == number && n != 10 { n } else { APART }),
-        Counted::Candidates(_) => refused(APART),
+fn after_refusal(b: &[u8], r: Refusal) -> Answer {
+    if r != Refusal::Candidates && counter::count(b) == Err(r) {
+        Err(r.number())
+    } else {
+        Err(APART)
     }
 }
 
 fn after_opening(b: &[u8], s: Sections) -> Answer {
-    if !named(b, s) || !steps(b, s) {
-        return refused(APART);
+    if !is_read(b, s) {
+        return Err(APART);
     }
     match counter::count(b) {
-        Counted::Refused(n) => refused(if n == 10 { n } else { APART }),
-        Counted::Candidates(n) => accepted(n),
+        Ok(candidates) => Ok(candidates),
+        Err(Refusal::Candidates) => Err(10),
+        Err(_) => Err(APART),
     }
 }
 
 fn answer(b: &[u8]) -> Answer {
     match book::open(b) {
-        Opened::Refused(number) => after_refusal(b, number),
-        Opened::Accepted(s) => after_opening(b, s),
+        Err(r) => after_refusal(b, r),
+        Ok(book) => after_opening(b, book.sections),
     }
 }
 
@@ -76,7 +76,7 @@ pub fn expect(
     expected: Answer,
 ) -> io::Result<Tally> {
     if b.len() < length {
-        return judge(rt, t, expected, refused(0));
+        return judge(rt, t, expected, Err(0));
     }
     judge(rt, t, expected, answer(&b[0..length]))
 }

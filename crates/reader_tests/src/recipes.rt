@@ -1,15 +1,14 @@
 // Makes a book out of a row of numbers; the recipe says what they are.
 ghost use Rattle.std.specs.Prelude.{◌≤◌};
 
-use crate::answers::{Answer, accepted, refused};
+use crate::answers::Answer;
 use crate::books::blank;
 use crate::reader::expect;
 use crate::{books, faults};
 use reports::tally::Tally;
 use reports::text;
-use reports::text::{Row, cell, set, small};
+use reports::text::{Row, set};
 use std::io;
-use std::num::{wrapping_add_u8, wrapping_sub_usize};
 
 // The answer that is expected of a row with too few or too many numbers: none.
 const NO_ANSWER: u8 = 98;
@@ -74,7 +73,7 @@ fn sized(b: &mut [u8], terms: u8, rules: u8, memberships: u8, links: u8, length:
 // No records, one byte of the head changed. N is 1.
 fn empty(b: &mut [u8], at: u8, x: u8, length: usize) -> usize {
     books::head(b, 1, 0, 0, 0, 0);
-    set(b, at as usize, x);
+    set(b, usize::from(at), x);
     length
 }
 
@@ -87,13 +86,13 @@ fn sample(b: &mut [u8], at: u8, x: u8, length: usize) -> usize {
         00 00 00 01 00 00 00 05 00  00 01  00 00 00 01  00 00 01 01
         ",
     );
-    set(b, at as usize, x);
+    set(b, usize::from(at), x);
     length
 }
 
 // So many tops, and a term after them. N is 1.
 fn term(b: &mut [u8], before: u8, kind: u8, x: u8, y: u8) -> usize {
-    let mut at = books::head(b, 1, wrapping_add_u8(before, 1), 0, 0, 0);
+    let mut at = books::head(b, 1, before.wrapping_add(1), 0, 0, 0);
     at = books::terms(b, at, before, 6, 0, 0);
     books::term(b, at, kind, x, y)
 }
@@ -131,11 +130,11 @@ fn link(b: &mut [u8], steps: u8, role: u8, from: u8, to: u8, grade: u8) -> usize
 
 // A top, so many names, and so many terms "some" and "all" over the top.
 fn places(b: &mut [u8], steps: u8, names: u8, some: u8, all: u8) -> usize {
-    let quantified = wrapping_add_u8(some, all);
+    let quantified = some.wrapping_add(all);
     let mut at = books::head(
         b,
         steps,
-        wrapping_add_u8(wrapping_add_u8(1, names), quantified),
+        names.wrapping_add(quantified).wrapping_add(1),
         0,
         0,
         0,
@@ -164,7 +163,7 @@ fn ranked_sized(
 // Edition 2: no records, one byte of the head changed. N is 1.
 fn ranked_empty(b: &mut [u8], at: u8, x: u8, length: usize) -> usize {
     books::ranked_head(b, 1, 0, 0, 0, 0, 0);
-    set(b, at as usize, x);
+    set(b, usize::from(at), x);
     length
 }
 
@@ -177,7 +176,7 @@ fn ranked_sample(b: &mut [u8], at: u8, x: u8, length: usize) -> usize {
         00 00 00 01 00 00 00 05 00  00 01  00 00 00 01  00 00 01 01  00 01 01 02
         ",
     );
-    set(b, at as usize, x);
+    set(b, usize::from(at), x);
     length
 }
 
@@ -240,7 +239,7 @@ fn names_around(b: &mut [u8], at: usize, names: u8, some: u8, again: u8) -> usiz
 
 // How many terms stand from `start` to `end`.
 fn terms_within(start: usize, end: usize) -> u8 {
-    (wrapping_sub_usize(end, start) / 3 % 256) as u8
+    (end.wrapping_sub(start) / 3 % 256) as u8
 }
 
 // Names that recur: N, names, terms "some" after them, and how often the names come again.
@@ -259,28 +258,28 @@ fn ranked_repeated(b: &mut [u8], steps: u8, names: u8, some: u8, again: u8) -> u
 
 // Writes the book and answers its length.
 fn make(b: &mut [u8], recipe: Recipe, r: Row) -> usize {
-    let v = small(r, 0);
-    let w = small(r, 1);
-    let x = small(r, 2);
-    let y = small(r, 3);
-    let z = small(r, 4);
+    let v = r.small(0);
+    let w = r.small(1);
+    let x = r.small(2);
+    let y = r.small(3);
+    let z = r.small(4);
     match recipe {
-        Recipe::Sized => sized(b, v, w, x, y, cell(r, 4)),
-        Recipe::Empty => empty(b, v, w, cell(r, 2)),
-        Recipe::Sample => sample(b, v, w, cell(r, 2)),
+        Recipe::Sized => sized(b, v, w, x, y, r.cell(4)),
+        Recipe::Empty => empty(b, v, w, r.cell(2)),
+        Recipe::Sample => sample(b, v, w, r.cell(2)),
         Recipe::Term => term(b, v, w, x, y),
         Recipe::Rule => rule(b, v, w, x),
-        Recipe::Membership => membership(b, v, w, x, y, z, small(r, 5)),
+        Recipe::Membership => membership(b, v, w, x, y, z, r.small(5)),
         Recipe::Link => link(b, v, w, x, y, z),
         Recipe::Places => places(b, v, w, x, y),
         Recipe::Faults => faults::make(b, v, w),
-        Recipe::RankedSized => ranked_sized(b, v, w, x, y, z, cell(r, 5)),
-        Recipe::RankedEmpty => ranked_empty(b, v, w, cell(r, 2)),
-        Recipe::RankedSample => ranked_sample(b, v, w, cell(r, 2)),
+        Recipe::RankedSized => ranked_sized(b, v, w, x, y, z, r.cell(5)),
+        Recipe::RankedEmpty => ranked_empty(b, v, w, r.cell(2)),
+        Recipe::RankedSample => ranked_sample(b, v, w, r.cell(2)),
         Recipe::Pairs => pairs(b, v, w, x, y),
         Recipe::RankedFaults => faults::make_ranked(b, v, w),
-        Recipe::Set => set_claim(b, v, w, x, y, z, small(r, 5)),
-        Recipe::RankedSet => ranked_set_claim(b, v, w, x, y, z, small(r, 5)),
+        Recipe::Set => set_claim(b, v, w, x, y, z, r.small(5)),
+        Recipe::RankedSet => ranked_set_claim(b, v, w, x, y, z, r.small(5)),
         Recipe::AfterName => after_name(b, v, w, x, y),
         Recipe::Repeated => repeated(b, v, w, x, y),
         Recipe::RankedRepeated => ranked_repeated(b, v, w, x, y),
@@ -290,14 +289,14 @@ fn make(b: &mut [u8], recipe: Recipe, r: Row) -> usize {
 fn expected(r: Row, from: usize) -> Answer
     requires { from ≤ 6 }
 {
-    let number = small(r, from);
+    let number = r.small(from);
     if r.count == from + 1 && number != 0 {
-        return refused(number);
+        return Err(number);
     }
     if r.count == from + 2 && number == 0 {
-        return accepted(cell(r, from + 1) as u64);
+        return Ok(r.cell(from + 1) as u64);
     }
-    refused(NO_ANSWER)
+    Err(NO_ANSWER)
 }
 
 // The case of one row; without numbers it is none.
@@ -312,12 +311,12 @@ fn case(rt: &impl Print, t: Tally, recipe: Recipe, r: Row) -> io::Result<Tally> 
 
 // The cases of a table; each ends with a semicolon or the line.
 pub fn run(rt: &impl Print, mut t: Tally, recipe: Recipe, table: &[u8]) -> io::Result<Tally> {
-    let mut r = text::empty_row();
-    for i in 0..table.len() {
-        r = text::read(r, table[i]);
-        if table[i] == b';' || table[i] == b'\n' {
+    let mut r = Row::default();
+    for c in table {
+        r.read(*c);
+        if *c == b';' || *c == b'\n' {
             t = case(rt, t, recipe, r)?;
-            r = text::empty_row();
+            r = Row::default();
         }
     }
     Ok(t)

@@ -1,90 +1,76 @@
 // Books, sheets and rows of numbers, written as text. What is no digit separates, so words and signs may stand between.
-ghost use Rattle.std.specs.Prelude.{◌≤◌, length};
-
-use crate::numbers::wide;
-use std::num::wrapping_add_usize;
+ghost use Rattle.std.specs.Prelude.{◌<◌, ◌≤◌, length, IfSome};
 
 // The numbers of a line; those past the last cell are only counted. `open` says that the last may have more digits.
-#[derive(Clone, Copy)]
+#[derive(Clone, Copy, Default)]
 pub struct Row {
-    pub cells: [usize; 16],
+    cells: [usize; 16],
     pub count: usize,
     open: bool,
 }
 
-pub fn empty_row() -> Row {
-    Row {
-        cells: [0; 16],
-        count: 0,
-        open: false,
+// The value of a digit up to F.
+fn digit(c: u8) -> Option<u8>
+    ensures { IfSome result (λ d. d < 16) }
+{
+    match c {
+        b'0'..=b'9' => Some(c - b'0'),
+        b'A'..=b'F' => Some(c - b'A' + 10),
+        _ => None,
     }
 }
 
-// The value of a digit up to F; 16 for what is none.
-fn digit(c: u8) -> u8 {
-    if c < b'0' {
-        return 16;
-    }
-    if c <= b'9' {
-        return c - b'0';
-    }
-    if c < b'A' {
-        return 16;
-    }
-    if c <= b'F' { c - b'A' + 10 } else { 16 }
-}
-
-// The row with one more character read.
-pub fn read(mut r: Row, c: u8) -> Row {
-    let d = digit(c);
-    let i = r.count;
-    if d < 10 {
-        r.open = true;
-        if i < 16 {
-            r.cells[i] = r.cells[i] % 100000 * 10 + wide(d);
+impl Row {
+    // Reads one character more.
+    pub fn read(&mut self, c: u8) {
+        let i = self.count;
+        match digit(c) {
+            Some(d) if d < 10 => {
+                self.open = true;
+                if i < 16 {
+                    self.cells[i] = self.cells[i] % 100000 * 10 + usize::from(d);
+                }
+            }
+            _ => {
+                if self.open {
+                    self.open = false;
+                    self.count = i.wrapping_add(1);
+                }
+            }
         }
-    } else if r.open {
-        r.open = false;
-        r.count = wrapping_add_usize(i, 1);
     }
-    r
+
+    // The number in a cell, 0 past the last.
+    pub fn cell(&self, i: usize) -> usize {
+        if i < 16 { self.cells[i] } else { 0 }
+    }
+
+    pub fn small(&self, i: usize) -> u8 {
+        (self.cell(i) % 256) as u8
+    }
 }
 
 // The numbers of a line.
 pub fn row_of(line: &[u8]) -> Row {
-    let mut r = empty_row();
-    for i in 0..line.len() {
-        r = read(r, line[i]);
+    let mut r = Row::default();
+    for c in line {
+        r.read(*c);
     }
-    read(r, b' ')
+    r.read(b' ');
+    r
 }
 
-pub fn cell(r: Row, i: usize) -> usize {
-    if i < 16 { r.cells[i] } else { 0 }
-}
-
-pub fn small(r: Row, i: usize) -> u8 {
-    (cell(r, i) % 256) as u8
-}
-
-// Writes the hexadecimal digit number `i`, of which a byte has two, and answers the number of the next.
-fn write_digit(b: &mut [u8], i: usize, d: u8) -> usize {
-    let at = i / 2;
-    if 16 <= d {
-        return i;
-    }
-    if at < b.len() {
-        b[at] = b[at] % 16 * 16 + d;
-        return wrapping_add_usize(i, 1);
-    }
-    i
-}
-
-// Writes the bytes that the text gives in hexadecimal, over what was there, and answers how many.
+// Writes the bytes that the text gives in hexadecimal, two digits each, over what was there, and answers how many.
 pub fn write(b: &mut [u8], text: &[u8]) -> usize {
     let mut digits = 0;
-    for i in 0..text.len() {
-        digits = write_digit(b, digits, digit(text[i]));
+    for c in text {
+        let at = digits / 2;
+        if let Some(d) = digit(*c)
+            && at < b.len()
+        {
+            b[at] = b[at] % 16 * 16 + d;
+            digits += 1;
+        }
     }
     digits / 2
 }
@@ -94,14 +80,12 @@ pub fn until(text: &[u8], from: usize, sign: u8) -> usize
     requires { from ≤ length text.now }
     ensures { (from ≤ result) × (result ≤ length text.now) }
 {
-    let mut at = from;
-    while at < text.len() {
+    for at in from..text.len() {
         if text[at] == sign {
             return at;
         }
-        at += 1;
     }
-    at
+    text.len()
 }
 
 // Where the line ends that begins at a place.
@@ -122,16 +106,4 @@ pub fn set(b: &mut [u8], at: usize, x: u8) {
     if at < b.len() {
         b[at] = x;
     }
-}
-
-pub fn same_bytes(a: &[u8], b: &[u8]) -> bool {
-    if a.len() != b.len() {
-        return false;
-    }
-    for i in 0..a.len() {
-        if a[i] != b[i] {
-            return false;
-        }
-    }
-    true
 }

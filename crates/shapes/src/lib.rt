@@ -6,6 +6,7 @@ ghost use Rattle.std.specs.Prelude.{◌≡◌, ◌≤◌, ◌<◌, length};
 ghost use Rattle.chain.specs.Decisions.{Tells};
 ghost use Rattle.shapes.specs.Layout.{shape_of, links_at, individuals_at, end_at, Indexable, CountsAgree, HeadRight, SheetLaidOut};
 
+use book::Counts;
 use encoding::word;
 
 // The counts of a sheet: elements, names, roles, individuals.
@@ -32,23 +33,21 @@ pub fn shape_of(b: &[u8]) -> Shape
     }
 }
 
-fn counts_agree(p: Shape, names: usize, roles: usize, individuals: usize) -> bool
-    ensures { Tells result (CountsAgree p names roles individuals) }
+fn counts_agree(p: Shape, counts: Counts) -> bool
+    ensures { Tells result (CountsAgree p counts.names counts.roles counts.individuals) }
 {
     1 <= p.elements
         && p.elements <= 64
-        && p.names == names
-        && p.roles == roles
-        && p.individuals == individuals
+        && p.names == counts.names
+        && p.roles == counts.roles
+        && p.individuals == counts.individuals
 }
 
-pub fn head_right(b: &[u8], steps: u8, names: usize, roles: usize, individuals: usize) -> bool
-    ensures { Tells result (HeadRight b.now (shape_of b.now) steps names roles individuals) }
+// For a book's steps and counts.
+pub fn head_right(b: &[u8], steps: u8, counts: Counts) -> bool
+    ensures { Tells result (HeadRight b.now (shape_of b.now) steps counts.names counts.roles counts.individuals) }
 {
-    12 <= b.len()
-        && b[0] == 1
-        && b[1] == steps
-        && counts_agree(shape_of(b), names, roles, individuals)
+    12 <= b.len() && b[0] == 1 && b[1] == steps && counts_agree(shape_of(b), counts)
 }
 
 // ---- the layout (check 14): the names begin at byte 12, and each body right after the one before

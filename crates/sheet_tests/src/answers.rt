@@ -1,11 +1,11 @@
 // What a call says: the number of the first check that says no, or 0 and the verdict or grade.
-use checker::Worked;
+use refusals::Refusal;
 use reports::tally;
 use reports::tally::Tally;
 use working::Verdict;
 
 // With number 0, kind 0 is "meets", 1 a rule with its element, 2 a membership claim, 3 a link claim, 4 a grade, 5 a pair with its two elements.
-#[derive(Clone, Copy)]
+#[derive(Clone, Copy, PartialEq, Eq, Default)]
 pub struct Answer {
     pub number: u8,
     pub kind: u8,
@@ -17,10 +17,7 @@ pub struct Answer {
 pub fn refused(number: u8) -> Answer {
     Answer {
         number,
-        kind: 0,
-        at: 0,
-        element: 0,
-        second: 0,
+        ..Answer::default()
     }
 }
 
@@ -44,29 +41,21 @@ fn of_verdict(v: Verdict) -> Answer {
     }
 }
 
-pub fn of_worked(w: Worked) -> Answer {
-    match w {
-        Worked::Refused(n) => refused(n),
-        Worked::Says(v) => of_verdict(v),
-    }
-}
-
-pub fn of_grade(a: asking::Answer) -> Answer {
+pub fn of_worked(a: Result<Verdict, Refusal>) -> Answer {
     match a {
-        asking::Answer::Refused(n) => refused(n),
-        asking::Answer::Grade(g) => said(4, g as usize, 0, 0),
+        Ok(v) => of_verdict(v),
+        Err(r) => refused(r.number()),
     }
 }
 
-fn same(a: Answer, b: Answer) -> bool {
-    a.number == b.number
-        && a.kind == b.kind
-        && a.at == b.at
-        && a.element == b.element
-        && a.second == b.second
+pub fn of_grade(a: Result<u8, Refusal>) -> Answer {
+    match a {
+        Ok(g) => said(4, usize::from(g), 0, 0),
+        Err(r) => refused(r.number()),
+    }
 }
 
 // One case more; `kept` says that the buffer is as it should be.
 pub fn judge(t: Tally, expected: Answer, given: Answer, kept: bool) -> Tally {
-    tally::judge(t, kept && same(expected, given))
+    tally::judge(t, kept && expected == given)
 }

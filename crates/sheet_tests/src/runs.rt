@@ -2,8 +2,7 @@
 use crate::answers::{Answer, judge, of_grade, of_worked, refused, said};
 use reports::tally::Tally;
 use reports::text;
-use reports::text::{Row, cell, same_bytes, set, small};
-use std::num::wrapping_add_usize;
+use reports::text::{Row, set};
 
 // The number of no check.
 const NO_CALL: u8 = 98;
@@ -25,15 +24,15 @@ fn columns(recipe: Recipe, r: Row) -> usize {
         Recipe::Entries => 13,
         Recipe::Ranked => 16,
         Recipe::Members => 14,
-        Recipe::Grade => if cell(r, 2) == 0 { 4 } else { 3 },
-        Recipe::Link => if cell(r, 3) == 0 { 5 } else { 4 },
+        Recipe::Grade => if r.cell(2) == 0 { 4 } else { 3 },
+        Recipe::Link => if r.cell(3) == 0 { 5 } else { 4 },
     }
 }
 
 // The first numbers of a row, from a place on.
 fn set_all(b: &mut [u8], at: usize, r: Row, count: usize) {
     for i in 0..count {
-        set(b, wrapping_add_usize(at, i), small(r, i));
+        set(b, at.wrapping_add(i), r.small(i));
     }
 }
 
@@ -47,14 +46,14 @@ fn answer(book: &[u8], sheet: &[u8], room: usize, buffer: &mut [u8]) -> Answer {
     if buffer.len() < room {
         return refused(NO_CALL);
     }
-    of_worked(checker::work_out(book, sheet, &mut buffer[0..room]))
+    of_worked(checker::work_out(book, sheet, &mut buffer[..room]))
 }
 
 // The buffer is of A5; after the call, the whole of it is to be as wanted.
 fn work(t: Tally, book: &[u8], sheet: &[u8], room: usize, a: Answer, wanted: &[u8]) -> Tally {
     let mut grid = [0xA5u8; 64];
     let given = answer(book, sheet, room, &mut grid);
-    judge(t, a, given, same_bytes(&grid, wanted))
+    judge(t, a, given, grid.as_slice() == wanted)
 }
 
 // The grid is written only if the call is not refused.
@@ -75,7 +74,7 @@ fn on_sheet(t: Tally, book: &[u8], sheet: &[u8], room: usize, number: u8, grid: 
     let mut s = [0u8; 64];
     let length = text::write(&mut s, sheet);
     if length <= 64 {
-        return worked(t, book, &s[0..length], room, number, grid);
+        return worked(t, book, &s[..length], room, number, grid);
     }
     unfit(t)
 }
@@ -85,7 +84,7 @@ pub fn written(t: Tally, book: &[u8], sheet: &[u8], room: usize, number: u8, gri
     let mut b = [0u8; 64];
     let size = text::write(&mut b, book);
     if size <= 64 {
-        return on_sheet(t, &b[0..size], sheet, room, number, grid);
+        return on_sheet(t, &b[..size], sheet, room, number, grid);
     }
     unfit(t)
 }
@@ -94,10 +93,10 @@ pub fn written(t: Tally, book: &[u8], sheet: &[u8], room: usize, number: u8, gri
 fn change(t: Tally, book: &[u8], sheet: &[u8], grid: &[u8], r: Row) -> Tally {
     let mut s = [0u8; 64];
     text::write(&mut s, sheet);
-    set(&mut s, cell(r, 0), small(r, 1));
-    let length = cell(r, 2);
+    set(&mut s, r.cell(0), r.small(1));
+    let length = r.cell(2);
     if length <= 64 {
-        return worked(t, book, &s[0..length], cell(r, 3), small(r, 4), grid);
+        return worked(t, book, &s[..length], r.cell(3), r.small(4), grid);
     }
     unfit(t)
 }
@@ -109,8 +108,8 @@ fn entries(t: Tally, book: &[u8], sheet: &[u8], r: Row) -> Tally {
     text::write(&mut s, sheet);
     set_all(&mut s, 12, r, 10);
     set_all(&mut wanted, 0, r, 4);
-    let expected = said(small(r, 10), cell(r, 11), cell(r, 12), 0);
-    work(t, book, &s[0..22], 64, expected, &wanted)
+    let expected = said(r.small(10), r.cell(11), r.cell(12), 0);
+    work(t, book, &s[..22], 64, expected, &wanted)
 }
 
 // Four grades of names, four links of role 0, four of role 1 -> what is broken, which, at which element, at which second one. The individual sits
@@ -121,7 +120,7 @@ fn ranked(t: Tally, book: &[u8], sheet: &[u8], r: Row) -> Tally {
     text::write(&mut s, sheet);
     set_all(&mut s, 12, r, 12);
     set_all(&mut wanted, 0, r, 4);
-    let expected = said(small(r, 12), cell(r, 13), cell(r, 14), cell(r, 15));
+    let expected = said(r.small(12), r.cell(13), r.cell(14), r.cell(15));
     work(t, book, &s[0..25], 64, expected, &wanted)
 }
 
@@ -132,8 +131,8 @@ fn members(t: Tally, book: &[u8], sheet: &[u8], r: Row) -> Tally {
     text::write(&mut s, sheet);
     set_all(&mut s, 12, r, 12);
     set_all(&mut wanted, 0, r, 4);
-    let expected = said(small(r, 12), cell(r, 13), 0, 0);
-    work(t, book, &s[0..24], 64, expected, &wanted)
+    let expected = said(r.small(12), r.cell(13), 0, 0);
+    work(t, book, &s[..24], 64, expected, &wanted)
 }
 
 // A grade when the number is 0.
@@ -153,9 +152,9 @@ fn case(t: Tally, recipe: Recipe, book: &[u8], sheet: &[u8], grid: &[u8], r: Row
     if r.count != columns(recipe, r) {
         return unfit(t);
     }
-    let c = cell(r, 0);
-    let d = cell(r, 1);
-    let e = cell(r, 2);
+    let c = r.cell(0);
+    let d = r.cell(1);
+    let e = r.cell(2);
     match recipe {
         Recipe::Change => change(t, book, sheet, grid, r),
         Recipe::Entries => entries(t, book, sheet, r),
@@ -164,12 +163,12 @@ fn case(t: Tally, recipe: Recipe, book: &[u8], sheet: &[u8], grid: &[u8], r: Row
         // candidate, term -> number, grade
         Recipe::Grade => {
             let a = of_grade(asking::grade(book, c, d));
-            judge(t, graded(small(r, 2), cell(r, 3)), a, true)
+            judge(t, graded(r.small(2), r.cell(3)), a, true)
         }
         // role, from, to -> number, grade
         Recipe::Link => {
-            let a = of_grade(asking::link(book, small(r, 0), d, e));
-            judge(t, graded(small(r, 3), cell(r, 4)), a, true)
+            let a = of_grade(asking::link(book, r.small(0), d, e));
+            judge(t, graded(r.small(3), r.cell(4)), a, true)
         }
     }
 }
@@ -183,12 +182,12 @@ fn rows(
     grid: &[u8],
     table: &[u8],
 ) -> Tally {
-    let mut r = text::empty_row();
-    for i in 0..table.len() {
-        r = text::read(r, table[i]);
-        if table[i] == b';' || table[i] == b'\n' {
+    let mut r = Row::default();
+    for c in table {
+        r.read(*c);
+        if *c == b';' || *c == b'\n' {
             t = case(t, recipe, book, sheet, grid, r);
-            r = text::empty_row();
+            r = Row::default();
         }
     }
     t
@@ -205,7 +204,7 @@ pub fn run(
     let mut b = [0u8; 64];
     let size = text::write(&mut b, book);
     if size <= 64 {
-        return rows(t, recipe, &b[0..size], sheet, grid, table);
+        return rows(t, recipe, &b[..size], sheet, grid, table);
     }
     unfit(t)
 }

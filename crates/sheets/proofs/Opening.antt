@@ -2,18 +2,20 @@
 -- Assumes nothing.
 use mathlib.Core.Path.{◌≡◌, refl, subst, ◌∙◌}
 use mathlib.Core.Option.{none, some}
+use Rattle.std.specs.Prelude.{Result, Ok, Err}
 use mathlib.Core.List.{List}
 use Prim.Native.Nat.{ℕ, ◌*◌, ◌≤◌}
 use native.Mathlib.Omega.{arith}
 use lib.ListN.{length}
-use Rattle.chain.specs.Questions.{Question, first_no}
-use Rattle.chain.proofs.Questions.{first_empty, first_yes, first_no_lem, first-none}
-use Rattle.chain.proofs.Answers.{answer-value, answer-refused, answer-number, answer_no, answer_yes}
+use Rattle.refusals.specs.Questions.{Question, first_no}
+use Rattle.refusals.specs.declared.Refusal.{Refusal}
+use Rattle.refusals.specs.declared.Refusal.TheVariants as refusal
+use Rattle.refusals.proofs.Questions.{first_empty, first_yes, first_no_lem, first-none}
+use Rattle.refusals.proofs.Answers.{checked-value, checked-refused, answer_no, answer_yes}
 use Rattle.encoding.proofs.Stretches.{length-stretch}
 use Rattle.shapes.specs.Layout.{shape_of, names_at, links_at, individuals_at, end_at, name_bytes, link_bytes, individual_bytes, HeadRight, SheetLaidOut, EntriesRight}
-use Rattle.sheets.specs.Opening.{sheet_questions, SheetRight, sheet_opened, sheet_number}
+use Rattle.sheets.specs.Opening.{sheet_questions, SheetRight, sheet_opened}
 use Rattle.shapes.specs.declared.Shape.{Shape}
-use Rattle.sheets.specs.declared.Sheet.TheVariants.{Refused, Accepted}
 
 -- ---- the answer, by the checks made so far
 
@@ -24,21 +26,21 @@ module _ (b : List ℕ) (N A R I : ℕ) where
   abbrev qs : List Question
   qs = sheet_questions b p N A R I
 
-  pub sheet_13 : ¬ HeadRight b p N A R I → sheet_opened b N A R I ≡ Refused 13
+  pub sheet_13 : ¬ HeadRight b p N A R I → sheet_opened b N A R I ≡ Err refusal.SheetHead
   unfolding sheet_opened
-  sheet_13 n = answer-refused Refused _ qs _ (first_no_lem _ _ _ n)
+  sheet_13 n = checked-refused Err _ qs _ (first_no_lem _ _ _ n)
 
-  pub sheet_14 : HeadRight b p N A R I → ¬ SheetLaidOut b p → sheet_opened b N A R I ≡ Refused 14
+  pub sheet_14 : HeadRight b p N A R I → ¬ SheetLaidOut b p → sheet_opened b N A R I ≡ Err refusal.SheetLayout
   unfolding sheet_opened
-  sheet_14 h n = answer-refused Refused _ qs _ (first_yes _ _ _ h ∙ first_no_lem _ _ _ n)
+  sheet_14 h n = checked-refused Err _ qs _ (first_yes _ _ _ h ∙ first_no_lem _ _ _ n)
 
-  pub sheet_15 : HeadRight b p N A R I → SheetLaidOut b p → ¬ EntriesRight b p N → sheet_opened b N A R I ≡ Refused 15
+  pub sheet_15 : HeadRight b p N A R I → SheetLaidOut b p → ¬ EntriesRight b p N → sheet_opened b N A R I ≡ Err refusal.SheetEntries
   unfolding sheet_opened
-  sheet_15 h l n = answer-refused Refused _ qs _ (first_yes _ _ _ h ∙ first_yes _ _ _ l ∙ first_no_lem _ _ _ n)
+  sheet_15 h l n = checked-refused Err _ qs _ (first_yes _ _ _ h ∙ first_yes _ _ _ l ∙ first_no_lem _ _ _ n)
 
-  pub sheet-none : HeadRight b p N A R I → SheetLaidOut b p → EntriesRight b p N → sheet_opened b N A R I ≡ Accepted p
+  pub sheet-none : HeadRight b p N A R I → SheetLaidOut b p → EntriesRight b p N → sheet_opened b N A R I ≡ Ok p
   unfolding sheet_opened
-  sheet-none h l e = answer-value Refused _ qs (first_yes _ _ _ h ∙ first_yes _ _ _ l ∙ first_yes _ _ _ e ∙ first_empty)
+  sheet-none h l e = checked-value Err _ qs (first_yes _ _ _ h ∙ first_yes _ _ _ l ∙ first_yes _ _ _ e ∙ first_empty)
 
   -- ---- what the answer says
 
@@ -49,21 +51,15 @@ module _ (b : List ℕ) (N A R I : ℕ) where
       let q15 = first-none _ _ _ q14.1 in
       record { shape_is = refl; head_right = q13.0; laid_out = q14.0; entries_right = q15.0 }
 
-  pub opened_right : (q : Shape) → sheet_opened b N A R I ≡ Accepted q → SheetRight b q N A R I
+  pub opened_right : (q : Shape) → sheet_opened b N A R I ≡ Ok q → SheetRight b q N A R I
   unfolding sheet_opened
   opened_right q e =
-      let u = answer_yes Refused _ qs sheet_number (λ n. refl) refl (Accepted q) refl e in
-      let f : p ≡ q = cc in
-      subst (λ (s : Shape). SheetRight b s N A R I) f (none_right u.0)
+      let u = answer_yes p qs q e in
+      subst (λ (s : Shape). SheetRight b s N A R I) u.1 (none_right u.0)
 
-  pub opened_refused : (n : ℕ) → sheet_opened b N A R I ≡ Refused n → first_no qs ≡ some n
+  pub opened_refused : (r : Refusal) → sheet_opened b N A R I ≡ Err r → first_no qs ≡ some r
   unfolding sheet_opened
-  opened_refused = answer_no Refused _ qs sheet_number (λ n. refl) refl
-
-  -- the answer's number is the first no
-  pub sheet_number-is : sheet_number (sheet_opened b N A R I) ≡ first_no qs
-  unfolding sheet_opened
-  sheet_number-is = answer-number Refused _ qs sheet_number (λ n. refl) refl
+  opened_refused = answer_no p qs
 
 -- ---- what later calls take from a sheet that is right
 

@@ -7,14 +7,9 @@ ghost use Rattle.chain.specs.Decisions.{Tells};
 ghost use Rattle.shapes.specs.Layout.{end_at, EntriesRight};
 ghost use Rattle.sheets.specs.Opening.{sheet_opened};
 
+use book::Counts;
+use refusals::Refusal;
 use shapes::{Shape, end_at, head_right, individuals_at, links_at, shape_of, sheet_laid_out};
-
-// The number of the first check that says no, or the sheet's shape.
-#[derive(Clone, Copy)]
-pub enum Sheet {
-    Refused(u8),
-    Accepted(Shape),
-}
 
 // ---- the bodies (check 15)
 
@@ -45,19 +40,19 @@ fn entries_right(b: &[u8], p: Shape, steps: u8) -> bool
 
 // ---- the checks in order
 
-// Checks a sheet against a book's steps and counts: 13 to 15.
-pub fn open_sheet(b: &[u8], steps: u8, names: usize, roles: usize, individuals: usize) -> Sheet
-    ensures { result ≡ sheet_opened b.now steps names roles individuals }
+// Checks a sheet against a book's steps and counts, 13 to 15: its shape, or the first check that says no.
+pub fn open_sheet(b: &[u8], steps: u8, counts: Counts) -> Result<Shape, Refusal>
+    ensures { result ≡ sheet_opened b.now steps counts.names counts.roles counts.individuals }
 {
-    if !head_right(b, steps, names, roles, individuals) {
-        return Sheet::Refused(13);
+    if !head_right(b, steps, counts) {
+        return Err(Refusal::SheetHead);
     }
     let p = shape_of(b);
     if !sheet_laid_out(b, p) {
-        return Sheet::Refused(14);
+        return Err(Refusal::SheetLayout);
     }
     if !entries_right(b, p, steps) {
-        return Sheet::Refused(15);
+        return Err(Refusal::SheetEntries);
     }
-    Sheet::Accepted(p)
+    Ok(p)
 }

@@ -5,9 +5,8 @@ ghost use Rattle.std.specs.Prelude.{◌≡◌, length};
 use crate::shape::{Shape, cell, is_quantified, number, pair, term};
 use crate::term_grades::link_at;
 use crate::{meets, term_grades, term_types};
-use reports::numbers::{larger, less, smaller, times};
-use reports::text::{byte, same_bytes, set};
-use std::num::wrapping_add_usize;
+use decisions::Outcome;
+use reports::text::{byte, set};
 
 // Room for 81 elements: two names and the links of three roles, and for their grids.
 fn room() -> [u8; 20480]
@@ -27,9 +26,9 @@ fn allows(b: &[u8], s: Shape, types: &[u8], c: usize, d: usize, i: usize, r: u8)
     let own = byte(types, cell(c, s.terms, i));
     let child = byte(types, cell(d, s.terms, term(b, i, 2)));
     if term(b, i, 0) == 4 {
-        smaller(r, child) <= own
+        r.min(child) <= own
     } else {
-        own <= larger(less(s.steps, r), child)
+        own <= s.steps.saturating_sub(r).max(child)
     }
 }
 
@@ -89,9 +88,9 @@ fn fill_links(b: &[u8], s: Shape, types: &[u8], n: usize, w: &mut [u8]) {
 fn bring_down(s: Shape, n: usize, w: &mut [u8], lower: usize, upper: usize) {
     let low = link_at(s, n, lower, 0, 0);
     let high = link_at(s, n, upper, 0, 0);
-    for i in 0..times(n, n) {
-        let at = wrapping_add_usize(low, i);
-        let x = smaller(byte(w, at), byte(w, wrapping_add_usize(high, i)));
+    for i in 0..n.wrapping_mul(n) {
+        let at = low.wrapping_add(i);
+        let x = byte(w, at).min(byte(w, high.wrapping_add(i)));
         set(w, at, x);
     }
 }
@@ -131,10 +130,10 @@ fn fill_names(b: &[u8], s: Shape, types: &[u8], n: usize, w: &mut [u8]) {
 
 // How many candidates below `c` are marked: the element that has type `c`.
 fn rank(marks: &[u8], c: usize) -> usize {
-    let mut count = 0;
+    let mut count = 0usize;
     for i in 0..c {
         if byte(marks, i) == 1 {
-            count = wrapping_add_usize(count, 1);
+            count = count.wrapping_add(1);
         }
     }
     count
@@ -169,18 +168,18 @@ fn seating(s: Shape, marks: &[u8], placement: &[u8], n: usize) -> usize {
 }
 
 // Outcome 1: the placement is the first seating that meets the claims. Outcome 2: there is none.
-fn placed(outcome: u8, given: usize, first: usize, end: usize) -> bool {
+fn placed(outcome: Outcome, given: usize, first: usize, end: usize) -> bool {
     match outcome {
-        1 => first < end && given == first,
-        2 => first == end,
-        _ => false,
+        Outcome::HoldsTogether => first < end && given == first,
+        Outcome::ClaimsFail => first == end,
+        Outcome::NoModel => false,
     }
 }
 
 fn right_on(
     b: &[u8],
     s: Shape,
-    outcome: u8,
+    outcome: Outcome,
     marks: &[u8],
     placement: &[u8],
     types: &[u8],
@@ -194,7 +193,7 @@ fn right_on(
     term_grades::fill(b, s, n, &w, &mut grid);
     let first = meets::first_seating(b, s, n, &w, &grid);
     let given = seating(s, marks, placement, n);
-    same_bytes(&grid, types)
+    grid.as_slice() == types
         && meets::pairs_met(b, s, n, &w)
         && meets::rules_met(b, s, n, &grid)
         && placed(outcome, given, first, meets::seatings(s, n))
@@ -204,7 +203,7 @@ fn right_on(
 pub fn right(
     b: &[u8],
     s: Shape,
-    outcome: u8,
+    outcome: Outcome,
     survivors: usize,
     marks: &[u8],
     placement: &[u8],
@@ -215,7 +214,7 @@ pub fn right(
         return false;
     }
     if n == 0 {
-        return outcome == 3;
+        return outcome == Outcome::NoModel;
     }
     right_on(b, s, outcome, marks, placement, &types, n)
 }

@@ -16,13 +16,11 @@ mod term_grades;
 mod term_types;
 mod worlds;
 
-use decisions::Decision;
-use reports::tally::{Tally, say, say_count};
-use reports::text::same_bytes;
+use decisions::Outcome;
+use reports::tally::Tally;
 use reports::{tally, text};
 use shape::Shape;
 use std::io;
-use std::num::wrapping_add_u64;
 use worlds::Seen;
 
 // How many books are drawn from a template, and how many from one whose books have many interpretations.
@@ -59,13 +57,11 @@ fn judged(mut sums: Sums, right: bool) -> Sums {
     sums
 }
 
-fn count(mut sums: Sums, outcome: u8) -> Sums {
-    if outcome == 1 {
-        sums.ones = wrapping_add_u64(sums.ones, 1);
-    } else if outcome == 2 {
-        sums.twos = wrapping_add_u64(sums.twos, 1);
-    } else {
-        sums.threes = wrapping_add_u64(sums.threes, 1);
+fn count(mut sums: Sums, outcome: Outcome) -> Sums {
+    match outcome {
+        Outcome::HoldsTogether => sums.ones = sums.ones.wrapping_add(1),
+        Outcome::ClaimsFail => sums.twos = sums.twos.wrapping_add(1),
+        Outcome::NoModel => sums.threes = sums.threes.wrapping_add(1),
     }
     sums
 }
@@ -74,7 +70,7 @@ fn count(mut sums: Sums, outcome: u8) -> Sums {
 fn same_decision(
     b: &[u8],
     length: usize,
-    outcome: u8,
+    outcome: Outcome,
     survivors: usize,
     marks: &[u8],
     placement: &[u8],
@@ -84,13 +80,13 @@ fn same_decision(
     if b.len() < length {
         return false;
     }
-    match decider::decide(&b[0..length], &mut own_marks, &mut own_placement) {
-        Decision::Refused(_) => false,
-        Decision::Decided(o, n) => {
-            o == outcome
-                && n == survivors
-                && same_bytes(&own_marks, marks)
-                && same_bytes(&own_placement, placement)
+    match decider::decide(&b[..length], &mut own_marks, &mut own_placement) {
+        Err(_) => false,
+        Ok(d) => {
+            d.outcome == outcome
+                && d.survivors == survivors
+                && own_marks.as_slice() == marks
+                && own_placement.as_slice() == placement
         }
     }
 }
@@ -100,7 +96,7 @@ fn same_written_out(
     book: &[u8],
     b: &[u8],
     s: Shape,
-    outcome: u8,
+    outcome: Outcome,
     survivors: usize,
     marks: &[u8],
     placement: &[u8],
@@ -115,7 +111,7 @@ fn same_shared(
     book: &[u8],
     b: &[u8],
     s: Shape,
-    outcome: u8,
+    outcome: Outcome,
     survivors: usize,
     marks: &[u8],
     placement: &[u8],
@@ -128,7 +124,7 @@ fn same_shared(
 fn decided(
     mut sums: Sums,
     book: &[u8],
-    outcome: u8,
+    outcome: Outcome,
     survivors: usize,
     marks: &[u8],
     placement: &[u8],
@@ -154,10 +150,8 @@ fn book(sums: Sums, b: &[u8]) -> Sums {
     let mut marks = [0xA5u8; 96];
     let mut placement = [0xA5u8; 16];
     match decider::decide(b, &mut marks, &mut placement) {
-        Decision::Refused(_) => judged(sums, false),
-        Decision::Decided(outcome, survivors) => {
-            decided(sums, b, outcome, survivors, &marks, &placement)
-        }
+        Err(_) => judged(sums, false),
+        Ok(d) => decided(sums, b, d.outcome, d.survivors, &marks, &placement),
     }
 }
 
@@ -165,7 +159,7 @@ fn first(sums: Sums, b: &[u8], length: usize) -> Sums {
     if b.len() < length {
         return judged(sums, false);
     }
-    book(sums, &b[0..length])
+    book(sums, &b[..length])
 }
 
 fn written_book(sums: Sums, line: &[u8]) -> Sums {
@@ -209,6 +203,7 @@ fn line(rt: &impl Print, sums: Sums, line: &[u8]) -> io::Result<Sums> {
 
 fn lines(rt: &impl Print, mut sums: Sums, input: &[u8]) -> io::Result<Sums> {
     let mut at = 0;
+    // A while: it leaps from line to line.
     while at < input.len() {
         let end = text::line_end(input, at);
         sums = line(rt, sums, &input[at..end])?;
@@ -221,14 +216,21 @@ fn report(rt: &impl Print, sums: Sums) -> io::Result<()> {
     let books = sums.books;
     let seen = sums.seen;
     tally::close(rt, tally::begin(), b"books", books)?;
-    say_count(rt, b"outcome 1:", sums.ones)?;
-    say_count(rt, b", 2:", sums.twos)?;
-    say_count(rt, b", 3:", sums.threes)?;
-    say_count(rt, b"\ninterpretations", seen.tried)?;
-    say_count(rt, b", that meet the pairs", seen.ranked)?;
-    say_count(rt, b", models of the rules", seen.models)?;
-    say_count(rt, b", of the claims too", seen.met)?;
-    say(rt, b"\n")
+    let Sums {
+        ones,
+        twos,
+        threes,
+        ..
+    } = sums;
+    println!(rt; "outcome 1: {ones}, 2: {twos}, 3: {threes}")?;
+    print!(rt;
+        "interpretations {}, that meet the pairs {}",
+        seen.tried, seen.ranked
+    )?;
+    println!(rt;
+        ", models of the rules {}, of the claims too {}",
+        seen.models, seen.met
+    )
 }
 
 // Room for the input.
@@ -241,7 +243,6 @@ fn input_room() -> [u8; 65536]
 fn main(rt: HostRuntime) -> io::Result<()> {
     let mut input = input_room();
     let length = reading::read_full(&mut rt.stdin(), &mut input)?;
-    say_count(&rt, b"seed", random::SEED)?;
-    say(&rt, b"\n")?;
+    println!(&rt; "seed {}", random::SEED)?;
     report(&rt, lines(&rt, begin(random::SEED), &input[..length])?)
 }

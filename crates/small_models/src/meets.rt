@@ -1,9 +1,7 @@
 // Are the rules, pairs and claims met on an interpretation, of which the grid is worked out? `seats` has the element of each individual.
 use crate::shape::{Shape, cell, link_claim, membership, number, pair, rule, speaks_of};
 use crate::term_grades::link_at;
-use reports::numbers::times;
 use reports::text::{byte, set};
-use std::num::wrapping_add_usize;
 
 fn rule_met(s: Shape, n: usize, grid: &[u8], left: usize, right: usize) -> bool {
     for e in 0..n {
@@ -27,8 +25,8 @@ pub fn rules_met(b: &[u8], s: Shape, n: usize, grid: &[u8]) -> bool {
 fn pair_met(s: Shape, n: usize, w: &[u8], lower: usize, upper: usize) -> bool {
     let low = link_at(s, n, lower, 0, 0);
     let high = link_at(s, n, upper, 0, 0);
-    for i in 0..times(n, n) {
-        if byte(w, wrapping_add_usize(high, i)) < byte(w, wrapping_add_usize(low, i)) {
+    for i in 0..n.wrapping_mul(n) {
+        if byte(w, high.wrapping_add(i)) < byte(w, low.wrapping_add(i)) {
             return false;
         }
     }
@@ -99,7 +97,11 @@ pub fn seatings(s: Shape, n: usize) -> usize {
     if s.individuals == 0 {
         return 1;
     }
-    if s.individuals == 1 { n } else { times(n, n) }
+    if s.individuals == 1 {
+        n
+    } else {
+        n.wrapping_mul(n)
+    }
 }
 
 // The seating of the given number, in dictionary order.

@@ -1,6 +1,6 @@
 // Random books, drawn from templates. A byte of a template below 80 stands for itself. Of any other the low digit says how many values there are
 // to draw from, and the high digit the lowest of them: 8 for 0, 9 for 1, A for 2, B for 4, C for 6.
-use reports::numbers::{long, next};
+use reports::numbers::next;
 
 pub const SEED: u64 = 7;
 
@@ -22,7 +22,7 @@ fn value(code: u8, seed: u64) -> u8 {
     if values == 0 {
         return code;
     }
-    let step = (seed / 100 % long(values) % 16) as u8;
+    let step = (seed / 100 % u64::from(values) % 16) as u8;
     lowest(code / 16) % 8 + step
 }
 

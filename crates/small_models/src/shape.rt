@@ -1,9 +1,7 @@
 // A small book, read as documents 01 and 02 lay it out: how much of each there is, and its records. A byte past the end is 0.
 ghost use Rattle.std.specs.Prelude.{◌<◌};
 
-use reports::numbers::{times, wide};
 use reports::text::byte;
-use std::num::wrapping_add_usize;
 
 // N and the counts of terms, rules, membership claims, link claims, pairs, names, roles and individuals.
 #[derive(Clone, Copy)]
@@ -23,12 +21,12 @@ pub struct Shape {
 pub fn number(b: &[u8], at: usize) -> usize
     ensures { result < 256 }
 {
-    wide(byte(b, at))
+    usize::from(byte(b, at))
 }
 
 // The place of a column in a row.
 pub fn cell(row: usize, width: usize, column: usize) -> usize {
-    wrapping_add_usize(times(row, width), column)
+    row.wrapping_mul(width).wrapping_add(column)
 }
 
 // How long the head of a book is. What comes after it are the bodies.
@@ -71,10 +69,6 @@ pub fn pair(b: &[u8], s: Shape, i: usize, k: usize) -> usize
     number(b, before + claims + 2 * (i % 256) + k % 4)
 }
 
-fn most(x: usize, y: usize) -> usize {
-    if x < y { y } else { x }
-}
-
 pub fn is_quantified(kind: usize) -> bool {
     kind == 4 || kind == 5
 }
@@ -94,10 +88,10 @@ pub fn first_term(b: &[u8], i: usize) -> usize {
 
 // One more than the highest name number.
 fn names(b: &[u8], terms: usize) -> usize {
-    let mut count = 0;
+    let mut count = 0usize;
     for i in 0..terms {
         if term(b, i, 0) == 0 {
-            count = most(count, term(b, i, 1) + 1);
+            count = count.max(term(b, i, 1) + 1);
         }
     }
     count
@@ -123,7 +117,7 @@ pub fn speaks_of(b: &[u8], s: Shape, i: usize, x: usize) -> bool {
 
 // One more than the highest of the eight individuals that membership claim `i` speaks of.
 fn individuals_of_membership(b: &[u8], s: Shape, i: usize) -> usize {
-    let mut count = 0;
+    let mut count = 0usize;
     for x in 0..8 {
         if speaks_of(b, s, i, x) {
             count = x + 1;
@@ -134,46 +128,46 @@ fn individuals_of_membership(b: &[u8], s: Shape, i: usize) -> usize {
 
 // The same of all claims of either sort.
 fn individuals_of_memberships(b: &[u8], s: Shape) -> usize {
-    let mut count = 0;
+    let mut count = 0usize;
     for i in 0..s.memberships {
-        count = most(count, individuals_of_membership(b, s, i));
+        count = count.max(individuals_of_membership(b, s, i));
     }
     count
 }
 
 fn individuals_of_links(b: &[u8], s: Shape) -> usize {
-    let mut count = 0;
+    let mut count = 0usize;
     for i in 0..s.links {
-        count = most(count, link_claim(b, s, i, 1) + 1);
-        count = most(count, link_claim(b, s, i, 2) + 1);
+        count = count.max(link_claim(b, s, i, 1) + 1);
+        count = count.max(link_claim(b, s, i, 2) + 1);
     }
     count
 }
 
 // One more than the highest role of the quantified terms, of the link claims, of the pairs.
 fn roles_of_terms(b: &[u8], s: Shape) -> usize {
-    let mut count = 0;
+    let mut count = 0usize;
     for i in 0..s.terms {
         if is_quantified(term(b, i, 0)) {
-            count = most(count, term(b, i, 1) + 1);
+            count = count.max(term(b, i, 1) + 1);
         }
     }
     count
 }
 
 fn roles_of_links(b: &[u8], s: Shape) -> usize {
-    let mut count = 0;
+    let mut count = 0usize;
     for i in 0..s.links {
-        count = most(count, link_claim(b, s, i, 0) + 1);
+        count = count.max(link_claim(b, s, i, 0) + 1);
     }
     count
 }
 
 fn roles_of_pairs(b: &[u8], s: Shape) -> usize {
-    let mut count = 0;
+    let mut count = 0usize;
     for i in 0..s.pairs {
-        count = most(count, pair(b, s, i, 0) + 1);
-        count = most(count, pair(b, s, i, 1) + 1);
+        count = count.max(pair(b, s, i, 0) + 1);
+        count = count.max(pair(b, s, i, 1) + 1);
     }
     count
 }
@@ -195,9 +189,9 @@ pub fn shape_of(book: &[u8], b: &[u8]) -> Shape {
     if byte(book, 0) == 2 {
         s.pairs = number(book, 21);
     }
-    let beyond_terms = most(roles_of_links(b, s), roles_of_pairs(b, s));
-    let roles = most(roles_of_terms(b, s), beyond_terms);
-    s.roles = most(1, roles);
-    s.individuals = most(individuals_of_memberships(b, s), individuals_of_links(b, s));
+    let beyond_terms = roles_of_links(b, s).max(roles_of_pairs(b, s));
+    let roles = roles_of_terms(b, s).max(beyond_terms);
+    s.roles = roles.max(1);
+    s.individuals = individuals_of_memberships(b, s).max(individuals_of_links(b, s));
     s
 }

@@ -2,14 +2,13 @@
 use crate::shape::{Shape, first_term, head, number, term};
 use crate::singles::{put, put_part};
 use reports::text::byte;
-use std::num::{wrapping_add_usize, wrapping_sub_usize};
 
 // The number that the term which is used for term `i` has then.
 fn renumbered(b: &[u8], i: usize) -> usize {
-    let mut count = 0;
+    let mut count = 0usize;
     for j in 0..first_term(b, i) {
         if first_term(b, j) == j {
-            count = wrapping_add_usize(count, 1);
+            count = count.wrapping_add(1);
         }
     }
     count
@@ -42,7 +41,7 @@ fn put_terms(b: &[u8], s: Shape, out: &mut [u8], at: usize) -> usize {
 // Is byte `k`, of a rule or a membership claim, the number of a term?
 fn is_term(book: &[u8], k: usize) -> bool {
     let claims = number(book, 11);
-    k < claims || wrapping_sub_usize(k, claims) % 4 == 1
+    k < claims || k.wrapping_sub(claims) % 4 == 1
 }
 
 // The rules and membership claims, which stand one after another.
@@ -56,7 +55,7 @@ fn put_rules_and_claims(book: &[u8], b: &[u8], out: &mut [u8], at: usize) -> usi
 
 // The section whose offset stands at `at` begins `less` bytes earlier.
 fn bring_forward(out: &mut [u8], at: usize, less: usize) {
-    put(out, at, wrapping_sub_usize(number(out, at), less));
+    put(out, at, number(out, at).wrapping_sub(less));
 }
 
 fn mend_head(edition: u8, out: &mut [u8], less: usize) {
@@ -74,10 +73,6 @@ pub fn write(book: &[u8], b: &[u8], s: Shape, out: &mut [u8]) -> usize {
     let terms = put_part(book, 0, head(book), out, 0);
     let rules = put_terms(b, s, out, terms);
     let links = put_rules_and_claims(book, b, out, rules);
-    mend_head(
-        byte(book, 0),
-        out,
-        wrapping_sub_usize(number(book, 7), rules),
-    );
+    mend_head(byte(book, 0), out, number(book, 7).wrapping_sub(rules));
     put_part(book, number(book, 15), book.len(), out, links)
 }

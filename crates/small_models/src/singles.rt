@@ -1,12 +1,11 @@
 // A small book with its sets written out: for each member, ascending, a single claim in the place of the set's.
 use crate::shape::{Shape, cell, membership, number, speaks_of};
 use reports::text::{byte, set};
-use std::num::{wrapping_add_usize, wrapping_sub_usize};
 
 // Each writer of bytes answers the place after what it wrote.
 pub fn put(out: &mut [u8], at: usize, x: usize) -> usize {
     set(out, at, (x % 256) as u8);
-    wrapping_add_usize(at, 1)
+    at.wrapping_add(1)
 }
 
 // Membership claim `i` of individual `x` alone, if it speaks of that.
@@ -46,7 +45,7 @@ pub fn put_part(book: &[u8], from: usize, end: usize, out: &mut [u8], at: usize)
 
 // How many membership claims there are now, from `at` to `end`, and where the link claims and pairs are.
 fn mend_head(edition: u8, s: Shape, out: &mut [u8], at: usize, end: usize) {
-    put(out, 13, wrapping_sub_usize(end, at) / 4);
+    put(out, 13, end.wrapping_sub(at) / 4);
     put(out, 15, end);
     if edition == 2 {
         put(out, 19, cell(s.links, 4, end));

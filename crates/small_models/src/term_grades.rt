@@ -1,16 +1,14 @@
 // Working out the grades of all terms on an interpretation, by the table of document 01. An interpretation of `n` elements is n rows of the names'
 // grades, then for each role n rows of n links; the grid is n rows of the terms' grades.
 use crate::shape::{Shape, cell, is_quantified, term};
-use reports::numbers::{larger, less, smaller, times};
 use reports::text::{byte, set};
-use std::num::wrapping_add_usize;
 
 // Not, and, or, top, bottom.
 pub fn joined(steps: u8, kind: usize, x: u8, y: u8) -> u8 {
     match kind {
-        1 => less(steps, x),
-        2 => smaller(x, y),
-        3 => larger(x, y),
+        1 => steps.saturating_sub(x),
+        2 => x.min(y),
+        3 => x.max(y),
         6 => steps,
         _ => 0,
     }
@@ -23,9 +21,9 @@ pub fn link_at(s: Shape, n: usize, role: usize, e: usize, f: usize) -> usize {
 // What the elements before gave, and one more, by its link and the child's grade there.
 fn further(steps: u8, some: bool, before: u8, link: u8, child: u8) -> u8 {
     if some {
-        larger(before, smaller(link, child))
+        before.max(link.min(child))
     } else {
-        smaller(before, larger(less(steps, link), child))
+        before.min(steps.saturating_sub(link).max(child))
     }
 }
 
@@ -41,7 +39,7 @@ fn quantified(
 ) -> u8 {
     let mut g = if some { 0 } else { s.steps };
     for f in 0..n {
-        let link = byte(w, wrapping_add_usize(row, f));
+        let link = byte(w, row.wrapping_add(f));
         g = further(s.steps, some, g, link, byte(grid, cell(f, s.terms, child)));
     }
     g
@@ -58,7 +56,7 @@ fn grade(b: &[u8], s: Shape, n: usize, w: &[u8], grid: &[u8], i: usize, e: usize
     if is_quantified(kind) {
         return quantified(s, n, w, grid, kind == 4, y, link_at(s, n, x, e, 0));
     }
-    let row = times(e, s.terms);
+    let row = e.wrapping_mul(s.terms);
     joined(
         s.steps,
         kind,

@@ -3,9 +3,7 @@ ghost use Rattle.std.specs.Prelude.{◌≤◌};
 
 use crate::shape::{Shape, cell, first_term, is_quantified, term};
 use crate::term_grades::joined;
-use reports::numbers::{times, wide};
 use reports::text::{byte, set};
-use std::num::wrapping_add_usize;
 
 // Is term `i` a place: quantified, or a name at its first term?
 fn is_place(b: &[u8], i: usize) -> bool {
@@ -17,14 +15,14 @@ fn is_place(b: &[u8], i: usize) -> bool {
 pub fn levels(s: Shape) -> usize
     ensures { 1 ≤ result }
 {
-    wide(s.steps) + 1
+    usize::from(s.steps) + 1
 }
 
 pub fn candidates(b: &[u8], s: Shape) -> usize {
-    let mut count = 1;
+    let mut count = 1usize;
     for i in 0..s.terms {
         if is_place(b, i) {
-            count = times(count, levels(s));
+            count = count.wrapping_mul(levels(s));
         }
     }
     count
@@ -32,13 +30,13 @@ pub fn candidates(b: &[u8], s: Shape) -> usize {
 
 // The candidate whose digits are the grades in row `e` of the grid.
 pub fn shown(b: &[u8], s: Shape, grid: &[u8], e: usize) -> usize {
-    let mut c = 0;
-    let mut weight = 1;
+    let mut c = 0usize;
+    let mut weight = 1usize;
     for i in 0..s.terms {
         if is_place(b, i) {
-            let digit = wide(byte(grid, cell(e, s.terms, i)));
-            c = wrapping_add_usize(c, times(weight, digit));
-            weight = times(weight, levels(s));
+            let digit = usize::from(byte(grid, cell(e, s.terms, i)));
+            c = c.wrapping_add(weight.wrapping_mul(digit));
+            weight = weight.wrapping_mul(levels(s));
         }
     }
     c
@@ -85,7 +83,7 @@ fn list(b: &[u8], s: Shape, marks: &[u8], types: &mut [u8], n: usize, c: usize) 
         return n;
     }
     fill_type(b, s, types, n, c);
-    wrapping_add_usize(n, 1)
+    n.wrapping_add(1)
 }
 
 // The listed types, one row each; answers how many.

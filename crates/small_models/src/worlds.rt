@@ -1,9 +1,8 @@
 // Tries every interpretation of one, two and, where they are few, three elements.
 use crate::shape::{Shape, cell};
 use crate::{meets, term_grades, term_types};
-use reports::numbers::times;
+use decisions::Outcome;
 use reports::text::{byte, set};
-use std::num::wrapping_add_u64;
 
 // More interpretations of one size than this are not tried; up to it `times` counts them exactly.
 const MOST: usize = 65535;
@@ -54,7 +53,7 @@ fn grown(count: usize, levels: usize) -> usize {
     if MOST < count {
         count
     } else {
-        times(count, levels)
+        count.wrapping_mul(levels)
     }
 }
 
@@ -77,12 +76,12 @@ fn all_marked(b: &[u8], s: Shape, n: usize, grid: &[u8], marks: &[u8]) -> bool {
 }
 
 // A model of the pairs and rules: its types are listed, the outcome is not 3, and it is 1 if the claims are met too.
-fn model(mut seen: Seen, outcome: u8, marked: bool, met: bool) -> Seen {
-    seen.models = wrapping_add_u64(seen.models, 1);
-    let mut right = marked && (outcome == 1 || outcome == 2);
+fn model(mut seen: Seen, outcome: Outcome, marked: bool, met: bool) -> Seen {
+    seen.models = seen.models.wrapping_add(1);
+    let mut right = marked && outcome != Outcome::NoModel;
     if met {
-        seen.met = wrapping_add_u64(seen.met, 1);
-        right = marked && outcome == 1;
+        seen.met = seen.met.wrapping_add(1);
+        right = marked && outcome == Outcome::HoldsTogether;
     }
     if !right {
         seen.right = false;
@@ -94,16 +93,16 @@ fn world(
     mut seen: Seen,
     b: &[u8],
     s: Shape,
-    outcome: u8,
+    outcome: Outcome,
     marks: &[u8],
     n: usize,
     w: &[u8],
 ) -> Seen {
-    seen.tried = wrapping_add_u64(seen.tried, 1);
+    seen.tried = seen.tried.wrapping_add(1);
     if !meets::pairs_met(b, s, n, w) {
         return seen;
     }
-    seen.ranked = wrapping_add_u64(seen.ranked, 1);
+    seen.ranked = seen.ranked.wrapping_add(1);
     let mut grid = [0u8; 32];
     term_grades::fill(b, s, n, w, &mut grid);
     if !meets::rules_met(b, s, n, &grid) {
@@ -116,14 +115,14 @@ fn world(
 
 // How many grades an interpretation of `n` elements has: names, and links of each role.
 fn digits(s: Shape, n: usize) -> usize {
-    cell(n, s.names, times(s.roles, times(n, n)))
+    cell(n, s.names, s.roles.wrapping_mul(n.wrapping_mul(n)))
 }
 
 fn worlds(
     mut seen: Seen,
     b: &[u8],
     s: Shape,
-    outcome: u8,
+    outcome: Outcome,
     marks: &[u8],
     n: usize,
     count: usize,
@@ -138,7 +137,7 @@ fn worlds(
 }
 
 // Every interpretation of `n` elements, if they are few.
-fn sized(seen: Seen, b: &[u8], s: Shape, outcome: u8, marks: &[u8], n: usize) -> Seen {
+fn sized(seen: Seen, b: &[u8], s: Shape, outcome: Outcome, marks: &[u8], n: usize) -> Seen {
     let count = power(term_types::levels(s), digits(s, n));
     if MOST < count {
         return seen;
@@ -146,7 +145,7 @@ fn sized(seen: Seen, b: &[u8], s: Shape, outcome: u8, marks: &[u8], n: usize) ->
     worlds(seen, b, s, outcome, marks, n, count)
 }
 
-pub fn all(mut seen: Seen, b: &[u8], s: Shape, outcome: u8, marks: &[u8]) -> Seen {
+pub fn all(mut seen: Seen, b: &[u8], s: Shape, outcome: Outcome, marks: &[u8]) -> Seen {
     seen = sized(seen, b, s, outcome, marks, 1);
     seen = sized(seen, b, s, outcome, marks, 2);
     sized(seen, b, s, outcome, marks, 3)

@@ -62,12 +62,15 @@ pub fn narrow(row: &[u8], steps: u8, sets: &mut [u64])
 
 // ---- before the first type, and after the last
 
-// Puts every right term into the set of each of the first `n` left terms: no pair is refuted.
+// Puts every right term into the set of each of the first `n` left terms: no pair is refuted. A `for`, and no `fill`: the must-fail edit
+// `only_the_diagonal` says what it puts at each.
 pub fn suppose_all(n: usize, sets: &mut [u64])
     requires { n ≤ length sets.old }
     ensures { (i : ℕ) → i < n → get_or sets.new i 0 ≡ 18446744073709551615 }
 {
-    sets[..n].fill(u64::MAX);
+    for i in 0..n {
+        sets[i] = u64::MAX;
+    }
 }
 
 // Writes a set as a row of bytes.

@@ -1,6 +1,6 @@
 -- Laws of writing a sheet: which checks that were made give which answer and sheet; and that the sheet of a model is right and meets the book.
 -- Assumes nothing.
-use mathlib.Core.Path.{◌≡◌, refl, sym, ap, ap₂, subst, ◌∙◌}
+use mathlib.Core.Path.{◌≡◌, sym, ap, ap₂, subst, ◌∙◌}
 use mathlib.Core.Option.{Option, none, some}
 use mathlib.Core.List.{List, [], ◌∷◌, ◌++◌}
 use Prim.Native.Nat.{ℕ, ◌≤◌}
@@ -9,9 +9,13 @@ use native.Mathlib.Omega.{arith}
 use lib.ListN.{length, take, drop}
 use lib.Seq.{take_at, drop_at}
 use Rattle.chain.specs.Lists.{index}
-use Rattle.chain.specs.Questions.{Question, ask, first_no}
-use Rattle.chain.proofs.Questions.{first_empty, first_yes, first_no_lem, first-none, first-some-append, first-none-append, first-both}
-use Rattle.chain.proofs.Answers.{answer-value, answer-refused, answer-before, answer-after, answer-number, answer_yes}
+use Rattle.std.specs.Prelude.{Ok, Err}
+use Rattle.refusals.specs.Questions.{Question, ask, first_no}
+use Rattle.refusals.specs.Answers.{refusal_in}
+use Rattle.refusals.proofs.Questions.{first_empty, first_yes, first_no_lem, first-none, first-some-append, first-none-append, first-both}
+use Rattle.refusals.proofs.Answers.{checked-value, checked-refused, checked-before, checked-after, answer_refusal, answer_yes}
+use Rattle.refusals.specs.declared.Refusal.{Refusal}
+use Rattle.refusals.specs.declared.Refusal.TheVariants as refusal
 use Rattle.semantics.specs.Interpretations.{Grading, Agree}
 use Rattle.semantics.specs.Books.{Book, Valid, name_count, role_count, individuals, RuleModel, MeetsClaims}
 use Rattle.sections.specs.Terms.{terms_of}
@@ -38,68 +42,67 @@ use Rattle.placement.specs.Outcome.{seat, placement, outcome, placed_types}
 use Rattle.placement.proofs.Outcome.{outcome-placed, outcome_model, placement-first}
 use Rattle.models.specs.Rows.{model_of}
 use Rattle.decider.specs.Deciding.{decide_questions, decision_of, marks_after, placement_after, Decidable, placement_in, interpretation_in}
-use Rattle.decisions.specs.declared.Decision.TheVariants.{Refused as NotDecided, Decided}
+use Rattle.decisions.specs.Decided.{outcome_number}
+use Rattle.decisions.specs.declared.Decision.{Decision}
+use Rattle.decisions.proofs.Decided.{numbered-outcome}
 use Rattle.decider.proofs.Deciding.{decision-refused, decision_decided}
 use Rattle.decider.proofs.Listed.{placement_reads, interpretation-is}
-use Rattle.written.specs.Writing.{seats_of, model_bytes, model_questions, written_by, sheet_by, write_questions, written_of, sheet_after, written_number}
-use Rattle.written.specs.declared.Written.TheVariants.{Refused, Sheet}
+use Rattle.written.specs.Writing.{seats_of, model_bytes, model_questions, written_by, sheet_by, write_questions, written_of, sheet_after}
 
 -- ---- the first no, after deciding
 
 module _ (B : Book) (t : ℕ) where
-  pub model_17 : ¬ (outcome B ≡ 1) → first_no (model_questions B t) ≡ some 17
-  model_17 n = first_no_lem 17 (ℕ_discrete (outcome B) 1) _ n
+  pub model_17 : ¬ (outcome B ≡ 1) → first_no (model_questions B t) ≡ some refusal.Outcome
+  model_17 n = first_no_lem refusal.Outcome (ℕ_discrete (outcome B) 1) _ n
 
   module _ (holds : outcome B ≡ 1) where
-    pub model_18 : ¬ (length (survivors_of B) ≤ 64) → first_no (model_questions B t) ≡ some 18
-    model_18 n = first_yes 17 (ℕ_discrete (outcome B) 1) _ holds ∙ first_no_lem 18 (dec_le (length (survivors_of B)) 64) _ n
+    pub model_18 : ¬ (length (survivors_of B) ≤ 64) → first_no (model_questions B t) ≡ some refusal.Survivors
+    model_18 n = first_yes refusal.Outcome (ℕ_discrete (outcome B) 1) _ holds ∙ first_no_lem refusal.Survivors (dec_le (length (survivors_of B)) 64) _ n
 
     module _ (few : length (survivors_of B) ≤ 64) where
-      pub model_19 : ¬ (length (model_bytes B) ≤ t) → first_no (model_questions B t) ≡ some 19
+      pub model_19 : ¬ (length (model_bytes B) ≤ t) → first_no (model_questions B t) ≡ some refusal.SheetBuffer
       model_19 n =
-          first_yes 17 (ℕ_discrete (outcome B) 1) _ holds ∙ first_yes 18 (dec_le (length (survivors_of B)) 64) _ few
-          ∙ first_no_lem 19 (dec_le (length (model_bytes B)) t) [] n
+          first_yes refusal.Outcome (ℕ_discrete (outcome B) 1) _ holds ∙ first_yes refusal.Survivors (dec_le (length (survivors_of B)) 64) _ few
+          ∙ first_no_lem refusal.SheetBuffer (dec_le (length (model_bytes B)) t) [] n
 
       pub model_none : length (model_bytes B) ≤ t → first_no (model_questions B t) ≡ none
       model_none h =
-          first_yes 17 (ℕ_discrete (outcome B) 1) _ holds ∙ first_yes 18 (dec_le (length (survivors_of B)) 64) _ few
-          ∙ first_yes 19 (dec_le (length (model_bytes B)) t) [] h ∙ first_empty
+          first_yes refusal.Outcome (ℕ_discrete (outcome B) 1) _ holds ∙ first_yes refusal.Survivors (dec_le (length (survivors_of B)) 64) _ few
+          ∙ first_yes refusal.SheetBuffer (dec_le (length (model_bytes B)) t) [] h ∙ first_empty
 
 -- ---- the answer and the sheet, by it
 
 module _ (B : Book) (qs : List Question) where
   -- a refusal keeps the sheet
-  pub written_no : (n : ℕ) (sheet : List ℕ) → first_no qs ≡ some n → (Refused n ≡ written_by B qs) × (sheet ≡ sheet_by B qs sheet)
+  pub written_no : (r : Refusal) (sheet : List ℕ) → first_no qs ≡ some r → (Err r ≡ written_by B qs) × (sheet ≡ sheet_by B qs sheet)
   unfolding written_by sheet_by
-  written_no n sheet e = (sym (answer-refused Refused _ qs n e), sym (answer-refused (λ _. sheet) _ qs n e))
+  written_no r sheet e = (sym (checked-refused Err _ qs r e), sym (checked-refused (λ _. sheet) _ qs r e))
 
   pub written_yes : (sheet : List ℕ) → first_no qs ≡ none
-      → (Sheet (length (model_bytes B)) ≡ written_by B qs) × (model_bytes B ++ drop (length (model_bytes B)) sheet ≡ sheet_by B qs sheet)
+      → (Ok (length (model_bytes B)) ≡ written_by B qs) × (model_bytes B ++ drop (length (model_bytes B)) sheet ≡ sheet_by B qs sheet)
   unfolding written_by sheet_by
-  written_yes sheet e = (sym (answer-value Refused _ qs e), sym (answer-value (λ _. sheet) _ qs e))
+  written_yes sheet e = (sym (checked-value Err _ qs e), sym (checked-value (λ _. sheet) _ qs e))
 
   -- more questions after those that say yes
   pub written-after_yes : (rs : List Question) (sheet : List ℕ) → first_no qs ≡ none
       → (written_by B rs ≡ written_by B (qs ++ rs)) × (sheet_by B rs sheet ≡ sheet_by B (qs ++ rs) sheet)
   unfolding written_by sheet_by
-  written-after_yes rs sheet e = (sym (answer-after Refused _ qs rs e), sym (answer-after (λ _. sheet) _ qs rs e))
+  written-after_yes rs sheet e = (sym (checked-after Err _ qs rs e), sym (checked-after (λ _. sheet) _ qs rs e))
 
-  -- the answer's number is the first no
-  pub written_number-is : written_number (written_by B qs) ≡ first_no qs
+  -- the answer's refusal is the first no
+  pub written_refusal : refusal_in (written_by B qs) ≡ first_no qs
   unfolding written_by
-  written_number-is = answer-number Refused _ qs written_number (λ n. refl) refl
+  written_refusal = answer_refusal _ qs
 
-  pub written_said : (n : ℕ) → written_by B qs ≡ Sheet n → (first_no qs ≡ none) × (n ≡ length (model_bytes B))
+  pub written_said : (n : ℕ) → written_by B qs ≡ Ok n → (first_no qs ≡ none) × (n ≡ length (model_bytes B))
   unfolding written_by
-  written_said n e =
-      let u = answer_yes Refused _ qs written_number (λ n. refl) refl (Sheet n) refl e in
-      (u.0, cc)
+  written_said n e = let u = answer_yes _ qs n e in (u.0, sym u.1)
 
 -- ---- on bytes
 
 module _ (b : List ℕ) (m p : ℕ) (sheet : List ℕ) where
-  pub write_refused : (n : ℕ) → first_no (decide_questions b m p) ≡ some n → (Refused n ≡ written_of b m p (length sheet)) × (sheet ≡ sheet_after b m p sheet)
-  write_refused n e = written_no _ _ n sheet (first-some-append (decide_questions b m p) _ n e)
+  pub write_refused : (r : Refusal) → first_no (decide_questions b m p) ≡ some r → (Err r ≡ written_of b m p (length sheet)) × (sheet ≡ sheet_after b m p sheet)
+  write_refused r e = written_no _ _ r sheet (first-some-append (decide_questions b m p) _ r e)
 
 -- ---- the model's sheet
 
@@ -139,34 +142,38 @@ module _ (B : Book) where
 -- ---- by what deciding answers
 
 module _ (b : List ℕ) (m p t : ℕ) where
-  pub written_undecided : (n : ℕ) → decision_of b m p ≡ NotDecided n → written_of b m p t ≡ Refused n
+  pub written_undecided : (r : Refusal) → decision_of b m p ≡ Err r → written_of b m p t ≡ Err r
   unfolding written_by
-  written_undecided n e = answer-before Refused _ (decide_questions b m p) _ n (decision-refused _ _ n e)
+  written_undecided r e = checked-before Err _ (decide_questions b m p) _ r (decision-refused _ _ r e)
 
-  module _ (o k : ℕ) (e : decision_of b m p ≡ Decided o k) where
+  module _ (d : Decision) (e : decision_of b m p ≡ Ok d) where
     -- the last three questions, of an outcome, a number of survivors and a length
     abbrev last : ℕ → ℕ → ℕ → List Question
-    last o k l = ask 17 (ℕ_discrete o 1) ∷ ask 18 (dec_le k 64) ∷ ask 19 (dec_le l t) ∷ []
+    last o k l = ask refusal.Outcome (ℕ_discrete o 1) ∷ ask refusal.Survivors (dec_le k 64) ∷ ask refusal.SheetBuffer (dec_le l t) ∷ []
 
     abbrev end : ℕ
-    end = end_at (record { elements = k; names = name_count (book_of b); roles = role_count (book_of b); individuals = individuals (book_of b) })
+    end = end_at (record { elements = d.survivors; names = name_count (book_of b); roles = role_count (book_of b); individuals = individuals (book_of b) })
+
+    said : (outcome_number d.outcome ≡ outcome (book_of b)) × (d.survivors ≡ length (survivors_of (book_of b)))
+    said =
+        let u = (decision_decided _ _ d e).1 in
+        (ap (λ (a : Decision). outcome_number a.outcome) (sym u) ∙ numbered-outcome (book_of b), ap (λ (a : Decision). a.survivors) (sym u))
 
     length-is : length (model_bytes (book_of b)) ≡ end
-    length-is = rw (decision_decided _ _ o k e).2 (model_length (book_of b))
+    length-is = rw said.1 (model_length (book_of b))
 
-    pub written_decided : written_number (written_of b m p t) ≡ first_no (last o k end)
+    pub written_decided : refusal_in (written_of b m p t) ≡ first_no (last (outcome_number d.outcome) d.survivors end)
     written_decided =
-        let u = decision_decided _ _ o k e in
-        written_number-is _ _ ∙ first-none-append (decide_questions b m p) (model_questions (book_of b) t) u.0
+        written_refusal _ _ ∙ first-none-append (decide_questions b m p) (model_questions (book_of b) t) (decision_decided _ _ d e).0
         ∙ ap (λ (l : ℕ). first_no (last (outcome (book_of b)) (length (survivors_of (book_of b))) l)) length-is
-        ∙ sym (ap₂ (λ (o k : ℕ). first_no (last o k end)) u.1 u.2)
+        ∙ sym (ap₂ (λ (o k : ℕ). first_no (last o k end)) said.0 said.1)
 
-    pub written-length : (n : ℕ) → written_of b m p t ≡ Sheet n → n ≡ end
+    pub written-length : (n : ℕ) → written_of b m p t ≡ Ok n → n ≡ end
     written-length n f = (written_said _ _ n f).1 ∙ length-is
 
 -- ---- a sheet that was written
 
-module _ (b : List ℕ) (m p : ℕ) (sheet : List ℕ) (n : ℕ) (e : written_of b m p (length sheet) ≡ Sheet n) where
+module _ (b : List ℕ) (m p : ℕ) (sheet : List ℕ) (n : ℕ) (e : written_of b m p (length sheet) ≡ Ok n) where
   none-says_no : (first_no (write_questions b m p (length sheet)) ≡ none) × (n ≡ length (model_bytes (book_of b)))
   none-says_no = written_said _ _ n e
 
@@ -181,8 +188,8 @@ module _ (b : List ℕ) (m p : ℕ) (sheet : List ℕ) (n : ℕ) (e : written_of
   pub written_after : (first_no (book_questions b) ≡ none) × (outcome (book_of b) ≡ 1) × (length (survivors_of (book_of b)) ≤ 64)
   written_after =
       let q = first-both (decide_questions b m p) (model_questions (book_of b) (length sheet)) none-says_no.0 in
-      let q17 = first-none 17 (ℕ_discrete (outcome (book_of b)) 1) _ q.1 in
-      let q18 = first-none 18 (dec_le (length (survivors_of (book_of b))) 64) _ q17.1 in
+      let q17 = first-none refusal.Outcome (ℕ_discrete (outcome (book_of b)) 1) _ q.1 in
+      let q18 = first-none refusal.Survivors (dec_le (length (survivors_of (book_of b))) 64) _ q17.1 in
       ((first-both (book_questions b) _ (first-both (candidate_questions b) _ q.0).0).0, q17.0, q18.0)
 
   -- the bytes past it are kept
@@ -192,7 +199,7 @@ module _ (b : List ℕ) (m p : ℕ) (sheet : List ℕ) (n : ℕ) (e : written_of
       ap (drop n) filled ∙ drop_at (model_bytes (book_of b)) (drop (length (model_bytes (book_of b))) sheet) n (sym u) ∙ ap (λ (k : ℕ). drop k sheet) (sym u)
 
 -- it stands for the interpretation that deciding leaves in marks and placement
-pub written_stands : (b marks buffer sheet : List ℕ) (n : ℕ) → written_of b (length marks) (length buffer) (length sheet) ≡ Sheet n
+pub written_stands : (b marks buffer sheet : List ℕ) (n : ℕ) → written_of b (length marks) (length buffer) (length sheet) ≡ Ok n
     → Agree (name_count (book_of b)) (role_count (book_of b)) (individuals (book_of b))
     (interpretation_in b (marks_after b (length buffer) marks) (placement_after b (length marks) buffer))
     (sheet_of (take n (sheet_after b (length marks) (length buffer) sheet)))
@@ -241,5 +248,5 @@ placement_there b marks buffer d e =
     let u = outcome-placed (book_of b) e in
     u.1.1 ∙ ap {B = Option (List ℕ)} some (sym (placement_reads (book_of b) _ d buffer u.1.0 u.1.1))
 
-pub sheet-kept : (b : List ℕ) (m p : ℕ) (sheet : List ℕ) (n : ℕ) → written_of b m p (length sheet) ≡ Refused n → sheet_after b m p sheet ≡ sheet
-sheet-kept b m p sheet n e = sym (written_no _ _ n sheet (sym (written_number-is _ _) ∙ ap written_number e)).1
+pub sheet-kept : (b : List ℕ) (m p : ℕ) (sheet : List ℕ) (r : Refusal) → written_of b m p (length sheet) ≡ Err r → sheet_after b m p sheet ≡ sheet
+sheet-kept b m p sheet r e = sym (written_no _ _ r sheet (sym (written_refusal _ _) ∙ ap refusal_in e)).1

@@ -1,18 +1,18 @@
 -- What writing a sheet answers, and what it leaves in the sheet: after deciding, 17 to 19. Document 01, "Writing a sheet, after deciding".
 -- Assumes nothing.
 use Rattle.std.proofs.Math.Option.{Option, none, some}
-use Rattle.std.specs.Prelude.{List, [], ◌∷◌, ◌++◌, ℕ, length, drop}
+use Rattle.std.specs.Prelude.{List, [], ◌∷◌, ◌++◌, ℕ, length, drop, Result}
 use Rattle.std.proofs.Math.Decide.{ℕ_discrete, dec_le}
-use Rattle.chain.specs.Questions.{Question, ask}
-use Rattle.chain.specs.Answers.{answer, left}
+use Rattle.refusals.specs.Questions.{Question, ask}
+use Rattle.refusals.specs.Answers.{answer, left}
+use Rattle.refusals.specs.declared.Refusal.{Refusal}
+use Rattle.refusals.specs.declared.Refusal.TheVariants as refusal
 use Rattle.semantics.specs.Books.{Book, name_count, role_count, individuals}
 use Rattle.book.specs.Reading.{book_of}
 use Rattle.sheets.specs.Writing.{sheet_bytes}
 use Rattle.elimination.specs.Survivors.{survivors_of}
 use Rattle.placement.specs.Outcome.{placement, outcome, placed_types}
 use Rattle.decider.specs.Deciding.{decide_questions}
-use Rattle.written.specs.declared.Written.{Written}
-use Rattle.written.specs.declared.Written.TheVariants.{Refused, Sheet}
 
 -- ---- of an abstract book
 
@@ -28,14 +28,16 @@ model_bytes B = sheet_bytes B.grading.steps (name_count B) (role_count B) (indiv
 -- with a sheet buffer of t bytes: "Is the outcome 1?" "Are there at most 64 survivors?" "Is the sheet buffer long enough?"
 abbrev pub model_questions : Book → (t : ℕ) → List Question
 model_questions B t =
-    ask 17 (ℕ_discrete (outcome B) 1) ∷ ask 18 (dec_le (length (survivors_of B)) 64) ∷ ask 19 (dec_le (length (model_bytes B)) t) ∷ []
+    ask refusal.Outcome (ℕ_discrete (outcome B) 1)
+    ∷ ask refusal.Survivors (dec_le (length (survivors_of B)) 64)
+    ∷ ask refusal.SheetBuffer (dec_le (length (model_bytes B)) t) ∷ []
 
 -- ---- of a book that was read, after questions
 
 module _ (B : Book) (qs : List Question) where
   -- the sheet's length
-  unfoldable pub written_by : Written
-  written_by = answer Refused (Sheet (length (model_bytes B))) qs
+  unfoldable pub written_by : Result ℕ Refusal
+  written_by = answer (length (model_bytes B)) qs
 
   -- "A refusal leaves the sheet buffer untouched, and bytes past the sheet are kept."
   unfoldable pub sheet_by : (sheet : List ℕ) → List ℕ
@@ -47,13 +49,8 @@ module _ (b : List ℕ) (m p : ℕ) where
   abbrev pub write_questions : (t : ℕ) → List Question
   write_questions t = decide_questions b m p ++ model_questions (book_of b) t
 
-  abbrev pub written_of : (t : ℕ) → Written
+  abbrev pub written_of : (t : ℕ) → Result ℕ Refusal
   written_of t = written_by (book_of b) (write_questions t)
 
   abbrev pub sheet_after : List ℕ → List ℕ
   sheet_after sheet = sheet_by (book_of b) (write_questions (length sheet)) sheet
-
--- the document's number for each answer
-abbrev pub written_number : Written → Option ℕ
-written_number (Refused n) = some n
-written_number (Sheet n) = none

@@ -2,37 +2,42 @@
 
 #![tactic(auto)]
 
-ghost use Rattle.std.specs.Prelude.{◌≡◌, ◌++◌, ◌*◌, ◌<◌, ◌≤◌, length, take, drop};
-ghost use Rattle.std.proofs.Math.Option.{some};
+ghost use Rattle.std.specs.Prelude.{◌≡◌, ◌++◌, ◌*◌, ◌≤◌, length, take, drop};
 ghost use Rattle.semantics.specs.Books.{name_count, role_count, individuals as individualsOf};
-ghost use Rattle.book.specs.Opening.{Right};
 ghost use Rattle.book.specs.Reading.{book_of};
 ghost use Rattle.shapes.specs.Layout.{end_at};
-ghost use Rattle.elimination.specs.Marks.{marked};
 ghost use Rattle.elimination.specs.Survivors.{survivors_of};
-ghost use Rattle.placement.specs.Outcome.{outcome as outcome_of, placement as placementOf};
+ghost use Rattle.placement.specs.Outcome.{outcome as outcome_of};
+ghost use Rattle.decisions.specs.Decided.{decision};
 ghost use Rattle.decider.specs.Deciding.{placement_in};
 ghost use Rattle.written.specs.Held.{HoldsPlacement};
 ghost use Rattle.written.specs.Writing.{model_bytes, model_questions, written_by, sheet_by};
 
+use book::Book;
+use decisions::{Decision, Outcome};
 use grades::Grader;
-use layout::Sections;
+use marking::Marked;
 use models::Listed;
+use refusals::Refusal;
 use shapes::Shape;
 
-// The number of the first check that says no, or the sheet's length.
+// What deciding said of a book, and left in its buffers.
 #[derive(Clone, Copy)]
-pub enum Written {
-    Refused(u8),
-    Sheet(usize),
+pub struct Held<'a> {
+    pub marked: Marked<'a>,
+    pub placement: &'a [u8],
+    pub answer: Decision,
+    pub ghost placement_long: { 16 ≤ length placement.now },
+    pub ghost placed: { HoldsPlacement marked.counted.book.bytes.now placement.now },
+    pub ghost answered: { answer ≡ decision (book_of marked.counted.book.bytes.now) },
 }
 
 // The counts of a sheet of so many elements for an accepted book.
-fn shape_in(b: &[u8], s: Sections, elements: usize) -> Shape
-    requires { Right b.now s }
-    ensures { (result.elements ≡ elements) × (result.names ≡ name_count (book_of b.now)) × (result.roles ≡ role_count (book_of b.now)) × (result.individuals ≡ individualsOf (book_of b.now)) }
+fn shape_in(book: Book<'_>, elements: usize) -> Shape
+    ensures { (result.elements ≡ elements) × (result.names ≡ name_count (book_of book.entry.bytes.now))
+        × (result.roles ≡ role_count (book_of book.entry.bytes.now)) × (result.individuals ≡ individualsOf (book_of book.entry.bytes.now)) }
 {
-    let counts = book::counts_in(b, s);
+    let counts = book.counts();
     Shape {
         elements,
         names: counts.names,
@@ -46,91 +51,59 @@ fn read_placement(placement: &[u8], count: usize, seats: &mut [u16])
     requires { (2 * count ≤ length placement.now) × (count ≤ length seats.old) }
     ensures { take count seats.new ≡ placement_in placement.now count }
 {
-    let mut j = 0;
-    while j < count {
+    for j in 0..count {
         seats[j] = encoding::word(placement, 2 * j) as u16;
-        j += 1;
     }
 }
 
 // Writes the sheet, where there is room for it: the marked types, with the individuals as placed.
-fn write_marked(
-    b: &[u8],
-    s: Sections,
-    count: usize,
-    marks: &[u8],
-    placement: &[u8],
-    p: Shape,
-    sheet: &mut [u8],
-)
-    requires right { Right b.now s }
-    requires elements_value { (p.elements ≡ length (survivors_of (book_of b.now))) × (p.names ≡ name_count (book_of b.now)) × (p.roles ≡ role_count (book_of b.now)) × (p.individuals ≡ individualsOf (book_of b.now)) }
-    requires count_bound { (count ≤ 16384) × (count ≤ length marks.now) × (marked marks.now count ≡ survivors_of (book_of b.now)) }
-    requires elements_bound { (p.elements ≤ 64) × (16 ≤ length placement.now) × (placementOf (book_of b.now) ≡ some (placement_in placement.now p.individuals)) × (end_at p ≤ length sheet.old) }
-    ensures { sheet.new ≡ model_bytes (book_of b.now) ++ drop (end_at p) sheet.old }
+fn write_marked(held: Held<'_>, p: Shape, sheet: &mut [u8])
+    requires elements_value { let B = book_of held.marked.counted.book.bytes.now in
+        (p.elements ≡ length (survivors_of B)) × (p.names ≡ name_count B) × (p.roles ≡ role_count B) × (p.individuals ≡ individualsOf B) }
+    requires elements_bound { (p.elements ≤ 64) × (outcome_of (book_of held.marked.counted.book.bytes.now) ≡ 1) × (end_at p ≤ length sheet.old) }
+    ensures { sheet.new ≡ model_bytes (book_of held.entry.marked.counted.book.bytes.now) ++ drop (end_at p) sheet.old }
 {
+    let book = held.marked.counted.book;
     let individuals = p.individuals;
     let mut seats = [0u16; 8];
-    read_placement(placement, individuals, &mut seats);
+    read_placement(held.placement, individuals, &mut seats);
     let mut types = [0u16; 64];
-    let n = models::list_marked(marks, count, &mut types);
-    let grader = Grader::new(layout::terms_in(b, s), book::logic_in(b, s));
+    let n = models::list_marked(held.marked.marks, held.marked.counted.count, &mut types);
+    let grader = Grader::new(book.terms(), book.logic());
     let listed = Listed {
         types: &types[..n],
         seats: &seats[..individuals],
         names: p.names,
         roles: p.roles,
     };
-    models::write_model(&grader, s.steps, listed, sheet);
+    models::write_model(&grader, book.sections.steps, listed, sheet);
 }
 
 // Check 19, and the sheet, of a book with outcome 1 and few survivors.
-fn write_few(
-    b: &[u8],
-    s: Sections,
-    count: usize,
-    marks: &[u8],
-    placement: &[u8],
-    survivors: usize,
-    sheet: &mut [u8],
-) -> Written
-    requires right { Right b.now s }
-    requires count_bound { (count ≤ 16384) × (count ≤ length marks.now) × (marked marks.now count ≡ survivors_of (book_of b.now)) }
-    requires in_bounds { (16 ≤ length placement.now) × HoldsPlacement b.now placement.now × (outcome_of (book_of b.now) ≡ 1) × (survivors ≡ length (survivors_of (book_of b.now))) × (survivors ≤ 64) }
-    ensures value { result ≡ written_by (book_of b.now) (model_questions (book_of b.now) (length sheet.old)) }
-    ensures sheet_after { sheet.new ≡ sheet_by (book_of b.now) (model_questions (book_of b.now) (length sheet.old)) sheet.old }
+fn write_few(held: Held<'_>, sheet: &mut [u8]) -> Result<usize, Refusal>
+    requires { (outcome_of (book_of held.marked.counted.book.bytes.now) ≡ 1) × (held.answer.survivors ≤ 64) }
+    ensures value { let B = book_of held.entry.marked.counted.book.bytes.now in result ≡ written_by B (model_questions B (length sheet.old)) }
+    ensures sheet_after { let B = book_of held.entry.marked.counted.book.bytes.now in sheet.new ≡ sheet_by B (model_questions B (length sheet.old)) sheet.old }
 {
-    let p = shape_in(b, s, survivors);
+    let p = shape_in(held.marked.counted.book, held.answer.survivors);
     let length = shapes::end_at(p);
     if sheet.len() < length {
-        return Written::Refused(19);
+        return Err(Refusal::SheetBuffer);
     }
-    write_marked(b, s, count, marks, placement, p, sheet);
-    Written::Sheet(length)
+    write_marked(held, p, sheet);
+    Ok(length)
 }
 
 // Checks 17 to 19, and the sheet, of a book that is decided.
-pub fn write_decided(
-    b: &[u8],
-    s: Sections,
-    count: usize,
-    marks: &[u8],
-    placement: &[u8],
-    outcome: u8,
-    survivors: usize,
-    sheet: &mut [u8],
-) -> Written
-    requires right { Right b.now s }
-    requires count_bound { (count ≤ 16384) × (count ≤ length marks.now) × (marked marks.now count ≡ survivors_of (book_of b.now)) }
-    requires in_bounds { (16 ≤ length placement.now) × HoldsPlacement b.now placement.now × (outcome ≡ outcome_of (book_of b.now)) × (survivors ≡ length (survivors_of (book_of b.now))) }
-    ensures value { result ≡ written_by (book_of b.now) (model_questions (book_of b.now) (length sheet.old)) }
-    ensures sheet_after { sheet.new ≡ sheet_by (book_of b.now) (model_questions (book_of b.now) (length sheet.old)) sheet.old }
+pub fn write_decided(held: Held<'_>, sheet: &mut [u8]) -> Result<usize, Refusal>
+    ensures value { let B = book_of held.entry.marked.counted.book.bytes.now in result ≡ written_by B (model_questions B (length sheet.old)) }
+    ensures sheet_after { let B = book_of held.entry.marked.counted.book.bytes.now in sheet.new ≡ sheet_by B (model_questions B (length sheet.old)) sheet.old }
 {
-    if outcome != 1 {
-        return Written::Refused(17);
+    if held.answer.outcome != Outcome::HoldsTogether {
+        return Err(Refusal::Outcome);
     }
-    if 64 < survivors {
-        return Written::Refused(18);
+    if 64 < held.answer.survivors {
+        return Err(Refusal::Survivors);
     }
-    write_few(b, s, count, marks, placement, survivors, sheet)
+    write_few(held, sheet)
 }

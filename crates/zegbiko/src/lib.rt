@@ -15,8 +15,7 @@ ghost use Rattle.numbers.specs.Numbers.{checked_number, counted_numbers, decided
 
 use numbers::{
     CountedNumbers, DecidedNumbers, GradedNumbers, ImpliedNumbers, WorkedNumbers, WrittenNumbers,
-    checked_number, counted_numbers, decided_numbers, graded_numbers, implied_numbers,
-    worked_numbers, written_numbers,
+    checked_number,
 };
 
 // Checks a book: 0, or the number of the first check that says no.
@@ -32,7 +31,7 @@ pub extern "C" fn zegbiko_check(b: &[u8]) -> u8
 pub extern "C" fn zegbiko_count(b: &[u8]) -> CountedNumbers
     ensures { result ≡ counted_numbers (counted_of b.now) }
 {
-    counted_numbers(counter::count(b))
+    CountedNumbers::from(counter::count(b))
 }
 
 // Decides a book.
@@ -42,7 +41,7 @@ pub extern "C" fn zegbiko_decide(b: &[u8], marks: &mut [u8], placement: &mut [u8
     ensures marks_after { marks.new ≡ marks_after b.now (length placement.old) marks.old }
     ensures placement_after { placement.new ≡ placement_after b.now (length marks.old) placement.old }
 {
-    decided_numbers(decider::decide(b, marks, placement))
+    DecidedNumbers::from(decider::decide(b, marks, placement))
 }
 
 // Fills the table of a book's implied rules.
@@ -56,7 +55,7 @@ pub extern "C" fn zegbiko_implied_rules(
     ensures marks_after { marks.new ≡ table_marks_after b.now (length table.old) marks.old }
     ensures table_after { table.new ≡ table_after b.now (length marks.old) table.old }
 {
-    implied_numbers(implied::implied_rules(b, marks, table))
+    ImpliedNumbers::from(implied::implied_rules(b, marks, table))
 }
 
 // Decides a book, and writes the sheet of its model.
@@ -72,7 +71,7 @@ pub extern "C" fn zegbiko_write_sheet(
     ensures placement_after { placement.new ≡ placement_after b.now (length marks.old) placement.old }
     ensures sheet_after { sheet.new ≡ sheet_after b.now (length marks.old) (length placement.old) sheet.old }
 {
-    written_numbers(writer::write_sheet(b, marks, placement, sheet))
+    WrittenNumbers::from(writer::write_sheet(b, marks, placement, sheet))
 }
 
 // Works out a sheet on a book.
@@ -81,7 +80,7 @@ pub extern "C" fn zegbiko_work_out(b: &[u8], sheet: &[u8], grid: &mut [u8]) -> W
     ensures value { result ≡ worked_numbers (worked_of b.now sheet.now (length grid.old)) }
     ensures grid_after { grid.new ≡ grid_after b.now sheet.now grid.old }
 {
-    worked_numbers(checker::work_out(b, sheet, grid))
+    WorkedNumbers::from(checker::work_out(b, sheet, grid))
 }
 
 // The grade of a term in a candidate.
@@ -89,7 +88,7 @@ pub extern "C" fn zegbiko_work_out(b: &[u8], sheet: &[u8], grid: &mut [u8]) -> W
 pub extern "C" fn zegbiko_grade(b: &[u8], candidate: usize, term: usize) -> GradedNumbers
     ensures { result ≡ graded_numbers (grade_answer b.now candidate term) }
 {
-    graded_numbers(asking::grade(b, candidate, term))
+    GradedNumbers::from(asking::grade(b, candidate, term))
 }
 
 // The link from one candidate to another for a role.
@@ -97,5 +96,5 @@ pub extern "C" fn zegbiko_grade(b: &[u8], candidate: usize, term: usize) -> Grad
 pub extern "C" fn zegbiko_link(b: &[u8], role: u8, from: usize, to: usize) -> GradedNumbers
     ensures { result ≡ graded_numbers (link_answer b.now role from to) }
 {
-    graded_numbers(asking::link(b, role, from, to))
+    GradedNumbers::from(asking::link(b, role, from, to))
 }

@@ -1,66 +1,27 @@
--- `book::open` meets its contract. Each return follows from the checks made so far, by the laws of opening.
+-- `book::open` meets its contract, by the laws of opening.
 -- Assumes nothing.
-use mathlib.Core.Path.{sym, ◌∙◌}
-use borrow.Author.Rules.{rules}
-use Rattle.chain.proofs.Answers.{numbered}
-use Rattle.chain.proofs.Decisions.{told_yes, told_no}
-use Rattle.heads.proofs.Editions.{long_headed}
-use Rattle.book.specs.Opening.{opened_number}
-use Rattle.book.proofs.Opening.{opened_number-is, head_1, head_2, head_3, head_4, head_5, head-none, sections_ordered}
+use mathlib.Core.Path.{sym, ap, ◌∙◌}
+use Rattle.std.specs.Prelude.{Ok}
+use Rattle.refusals.proofs.Answers.{handed_on}
+use Rattle.book.proofs.Opening.{opened_no, opened_none}
 use Rattle.book.proofs.open.Goals as goal
 
-pub returns-then-not-length_right : goal.returns-then-not-length_right
-returns-then-not-length_right c = let w = numbered opened_number (opened_number-is _) (sym (head_1 _ (told_no _ c.length_right.ensures c.if-not-length_right.true))) in record { value = w.0; result_value = w.1 }
+pub returns-in_err-sections : goal.returns-in_err-sections
+returns-in_err-sections c =
+    let w = opened_no _ _ c.in_err-sections.ensures in
+    rw (handed_on c.from_residual.result c.from_residual.ensures.1) (record { value = w.0; refused = w.1 })
 
-pub edition_right-requires : goal.edition_right-requires
-edition_right-requires c = long_headed c.args.b.now (told_yes _ c.length_right.ensures c.if-not-length_right.false).0
+pub check_bodies-requires : goal.check_bodies-requires
+check_bodies-requires c = c.in_ok-sections.ensures.1
 
-pub returns-then-not-edition_right : goal.returns-then-not-edition_right
-returns-then-not-edition_right c =
-    let w = numbered opened_number (opened_number-is _) (sym (head_2 _ (told_yes _ c.length_right.ensures c.if-not-length_right.false)
-    (told_no _ c.edition_right.ensures c.if-not-edition_right.true))) in record { value = w.0; result_value = w.1 }
+pub returns-in_err-check_bodies : goal.returns-in_err-check_bodies
+returns-in_err-check_bodies c =
+    let w = opened_no _ _ (c.in_ok-sections.ensures.2 ∙ sym c.in_err-check_bodies.ensures) in
+    rw (handed_on c.from_residual-in_err-check_bodies.result c.from_residual-in_err-check_bodies.ensures.1) (record { value = w.0; refused = w.1 })
 
-pub steps_right-requires : goal.steps_right-requires
-steps_right-requires c =
-    long_headed c.args.b.now (told_yes _ c.length_right.ensures c.if-not-length_right.false).0
+pub invariant_of-result : goal.invariant_of-result
+invariant_of-result c =
+    record { opened = opened_none _ (c.in_ok-sections.ensures.2 ∙ sym c.in_ok-check_bodies.ensures) ∙ ap Ok (sym c.in_ok-sections.ensures.0) }
 
-pub returns-then-not-steps_right : goal.returns-then-not-steps_right
-returns-then-not-steps_right c =
-    let w = numbered opened_number (opened_number-is _) (sym (head_3 _ (told_yes _ c.length_right.ensures c.if-not-length_right.false) (told_yes _ c.edition_right.ensures c.if-not-edition_right.false)
-    (told_no _ c.steps_right.ensures c.if-not-steps_right.true))) in record { value = w.0; result_value = w.1 }
-
-pub counts_right-requires : goal.counts_right-requires
-counts_right-requires c =
-    long_headed c.args.b.now (told_yes _ c.length_right.ensures c.if-not-length_right.false).0
-
-pub returns-then-not-counts_right : goal.returns-then-not-counts_right
-returns-then-not-counts_right c =
-    let w = numbered opened_number (opened_number-is _) (sym (head_4 _ (told_yes _ c.length_right.ensures c.if-not-length_right.false) (told_yes _ c.edition_right.ensures c.if-not-edition_right.false)
-    (told_yes _ c.steps_right.ensures c.if-not-steps_right.false) (told_no _ c.counts_right.ensures c.if-not-counts_right.true))) in record { value = w.0; result_value = w.1 }
-
-pub sections_of-s-requires : goal.sections_of-s-requires
-sections_of-s-requires c =
-    long_headed c.args.b.now (told_yes _ c.length_right.ensures c.if-not-length_right.false).0
-
-pub laid_out-requires : goal.laid_out-requires
-laid_out-requires c =
-    long_headed c.args.b.now (told_yes _ c.length_right.ensures c.if-not-length_right.false).0
-
-pub returns-then-not-laid_out : goal.returns-then-not-laid_out
-returns-then-not-laid_out c =
-    let w = numbered opened_number (opened_number-is _) (sym (head_5 _ (told_yes _ c.length_right.ensures c.if-not-length_right.false) (told_yes _ c.edition_right.ensures c.if-not-edition_right.false)
-    (told_yes _ c.steps_right.ensures c.if-not-steps_right.false) (told_yes _ c.counts_right.ensures c.if-not-counts_right.false)
-    (rw (← c.sections_of-s.ensures) (told_no _ c.laid_out.ensures c.if-not-laid_out.true)))) in record { value = w.0; result_value = w.1 }
-
-pub open_bodies-requires : goal.open_bodies-requires
-open_bodies-requires c =
-    let sections-of = c.sections_of-s in
-    rw sections-of.ensures (sections_ordered _ (rw (← sections-of.ensures) (told_yes _ c.laid_out.ensures c.if-not-laid_out.false)))
-
-pub returns : goal.returns
-returns c =
-    let sections-of = c.sections_of-s in
-    let w = numbered opened_number (opened_number-is _) (c.open_bodies.ensures ∙ rw sections-of.ensures (sym (head-none _
-    (told_yes _ c.length_right.ensures c.if-not-length_right.false) (told_yes _ c.edition_right.ensures c.if-not-edition_right.false) (told_yes _ c.steps_right.ensures c.if-not-steps_right.false)
-    (told_yes _ c.counts_right.ensures c.if-not-counts_right.false)
-    (rw (← sections-of.ensures) (told_yes _ c.laid_out.ensures c.if-not-laid_out.false))))) in record { value = w.0; result_value = w.1 }
+pub returns-clause-refused : goal.returns-clause-refused
+returns-clause-refused c = c.in_ok-check_bodies.ensures ∙ sym c.in_ok-sections.ensures.2

@@ -5,13 +5,19 @@ use mathlib.Core.Path.{sym, subst}
 use Prim.Native.Nat.{ℕ, ◌≤◌}
 use native.Mathlib.Omega.{arith}
 use Rattle.book.proofs.Reading.{right-terms, right-few}
-use Rattle.book.proofs.Opening.{right-ordered}
+use Rattle.book.proofs.Opening.{opened_accepted}
 use Rattle.sections.specs.Terms.{term_count, TermsRight}
 use Rattle.decide.proofs.print_survivors.Goals as goal
 
-pub terms_in-requires : goal.terms_in-requires
-terms_in-requires g c = right-ordered c.args.b.now c.args.s c.requires.0
-
 pub print_types-requires : goal.print_types-requires
 print_types-requires g c =
-    let e = sym c.terms_in.ensures in record { terms_right = subst (λ (z : List ℕ). TermsRight z) e c.requires.0.terms_right; terms_bound = (subst (λ (z : List ℕ). term_count z ≤ 64) e (omega (arith, right-terms c.args.b.now c.args.s c.requires.0, right-few c.args.b.now c.args.s c.requires.0)), omega (arith, c.logic_in.ensures.le_steps), c.requires.1) }
+    let ok = opened_accepted _ _ c.args.book.opened in
+    let e = sym c.terms.ensures in
+    record {
+      terms_right = subst (λ (z : List ℕ). TermsRight z) e ok.terms_right;
+      terms_bound = (
+        subst (λ (z : List ℕ). term_count z ≤ 64) e (omega (arith, right-terms _ _ ok, right-few _ _ ok)),
+        omega (arith, c.logic.ensures.le_steps),
+        c.requires,
+      );
+    }

@@ -1,32 +1,22 @@
 -- `decisions::seat` meets its contract.
 -- Assumes nothing.
 use mathlib.Core.Path.{◌∙◌}
-use borrow.Author.Rules.{rules}
+use Rattle.counter.proofs.Counting.{counted_small}
 use Rattle.decisions.proofs.Placing.{placing, placing_is}
-use Rattle.book.proofs.Opening.{right-ordered}
 use Rattle.decisions.proofs.seat.Goals as goal
-
-pub terms_in-requires : goal.terms_in-requires
-terms_in-requires c =
-    right-ordered c.args.b.now c.args.s c.requires.equipped.right
-
-pub memberships_in-requires : goal.memberships_in-requires
-memberships_in-requires c =
-    right-ordered c.args.b.now c.args.s c.requires.equipped.right
-
-pub links_in-requires : goal.links_in-requires
-links_in-requires c =
-    right-ordered c.args.b.now c.args.s c.requires.equipped.right
 
 pub place-requires : goal.place-requires
 place-requires c =
+    let k = c.args.marked.counted in
     record {
-      task = placing c.args.b.now c.args.s c.args.logic c.args.slots.now c.requires.equipped _ _ _ c.terms_in.ensures c.memberships_in.ensures
-          c.links_in.ensures c.args.marks.now c.args.count c.args.individuals c.requires.count_bound.0 c.requires.count_bound.1 c.requires.individuals_value.0;
+      task = placing k.book.bytes.now k.book.sections c.args.logic c.args.slots.now c.requires.equipped _ _ _ c.terms.ensures c.memberships.ensures
+          c.links.ensures c.args.marked.marks.now k.count c.args.individuals (counted_small _ _ k.counted) c.args.marked.marks_long
+          c.requires.individuals_value.0;
       individuals_in_bounds = c.requires.individuals_value.1;
     }
 
 pub returns : goal.returns
 returns c =
-    c.place.ensures ∙ placing_is c.args.b.now c.args.s c.args.logic c.args.slots.now c.requires.equipped _ _ _
-    c.terms_in.ensures c.memberships_in.ensures c.links_in.ensures _ c.requires.count_bound.2
+    let k = c.args.marked.counted in
+    c.place.ensures ∙ placing_is k.book.bytes.now k.book.sections c.args.logic c.args.slots.now c.requires.equipped _ _ _
+    c.terms.ensures c.memberships.ensures c.links.ensures _ c.args.marked.listed

@@ -4,7 +4,7 @@ use mathlib.Core.Path.{sym, ◌∙◌, ap}
 use native.Mathlib.Omega.{arith}
 use borrow.Author.Rules.{rules}
 use Rattle.chain.proofs.Decisions.{told_yes, told_no}
-use Rattle.sheets.specs.declared.Sheet.TheVariants.{Accepted}
+use Rattle.std.specs.Prelude.{Ok}
 use Rattle.sheets.proofs.Opening.{sheet_13, sheet_14, sheet_15, sheet-none}
 use Rattle.sheets.proofs.open_sheet.Goals as goal
 
@@ -35,7 +35,7 @@ returns-then-not-entries_right c =
 
 pub returns : goal.returns
 returns c =
-    ap Accepted c.shape_of-p.ensures.0 ∙ sym
+    ap Ok c.shape_of-p.ensures.0 ∙ sym
     (sheet-none _ _ _ _ _ (told_yes _ c.head_right.ensures
     c.if-not-head_right.false)
     (rw (← c.shape_of-p.ensures.0)

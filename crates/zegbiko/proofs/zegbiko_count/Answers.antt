@@ -6,4 +6,4 @@ use Rattle.numbers.specs.Numbers.{counted_numbers}
 use Rattle.zegbiko.proofs.zegbiko_count.Goals as goal
 
 pub returns : goal.returns
-returns c = c.counted_numbers.ensures ∙ ap counted_numbers c.count.ensures.value
+returns c = c.from.ensures ∙ ap counted_numbers c.count.ensures.value

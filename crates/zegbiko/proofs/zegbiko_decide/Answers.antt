@@ -8,4 +8,4 @@ use Rattle.zegbiko.proofs.zegbiko_decide.Goals as goal
 pub returns : goal.returns
 returns c =
     let answered = c.decide.ensures in
-    record { value = c.decided_numbers.ensures ∙ ap decided_numbers answered.value; marks_after = answered.marks_after; placement_after = answered.placement_after }
+    record { value = c.from.ensures ∙ ap decided_numbers answered.value; marks_after = answered.marks_after; placement_after = answered.placement_after }

@@ -8,4 +8,4 @@ use Rattle.zegbiko.proofs.zegbiko_implied_rules.Goals as goal
 pub returns : goal.returns
 returns c =
     let answered = c.implied_rules.ensures in
-    record { value = c.implied_numbers.ensures ∙ ap implied_numbers answered.value; marks_after = answered.marks_after; table_after = answered.table_after }
+    record { value = c.from.ensures ∙ ap implied_numbers answered.value; marks_after = answered.marks_after; table_after = answered.table_after }

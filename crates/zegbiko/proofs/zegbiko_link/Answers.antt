@@ -6,4 +6,4 @@ use Rattle.numbers.specs.Numbers.{graded_numbers}
 use Rattle.zegbiko.proofs.zegbiko_link.Goals as goal
 
 pub returns : goal.returns
-returns c = c.graded_numbers.ensures ∙ ap graded_numbers c.link.ensures.value
+returns c = c.from.ensures ∙ ap graded_numbers c.link.ensures.value

@@ -8,4 +8,4 @@ use Rattle.zegbiko.proofs.zegbiko_work_out.Goals as goal
 pub returns : goal.returns
 returns c =
     let answered = c.work_out.ensures in
-    record { value = c.worked_numbers.ensures ∙ ap worked_numbers answered.value; grid_after = answered.grid_after }
+    record { value = c.from.ensures ∙ ap worked_numbers answered.value; grid_after = answered.grid_after }

@@ -8,4 +8,4 @@ use Rattle.zegbiko.proofs.zegbiko_write_sheet.Goals as goal
 pub returns : goal.returns
 returns c =
     let answered = c.write_sheet.ensures in
-    record { value = c.written_numbers.ensures ∙ ap written_numbers answered.value; marks_after = answered.marks_after; placement_after = answered.placement_after; sheet_after = answered.sheet_after }
+    record { value = c.from.ensures ∙ ap written_numbers answered.value; marks_after = answered.marks_after; placement_after = answered.placement_after; sheet_after = answered.sheet_after }
