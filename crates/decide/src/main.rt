@@ -16,7 +16,7 @@ use std::io;
 fn print_refusal(rt: &impl Print, r: Refusal) -> io::Result<()> {
     let mut out = [0u8; 192];
     let mut text = Text::new(&mut out);
-    text.refused_line(r);
+    text.refused_line(r.number());
     rt.write_all(text.bytes())
 }
 

@@ -10,16 +10,14 @@ ghost use Rattle.gradings.specs.Gradings.{grading};
 ghost use Rattle.sections.specs.Terms.{term_count, terms_of, TermsRight};
 ghost use Rattle.grades.specs.Rows.{row_of};
 ghost use Rattle.encoding.specs.Words.{word_at};
-ghost use Rattle.refusals.specs.Refusals.{number_of};
 ghost use Rattle.elimination.specs.Marks.{marked?};
 ghost use Rattle.printout.specs.Text.{digit_byte, decimal, Added};
 ghost use Rattle.printout.specs.Lines.{newline, refused_line, outcome_line, spaced, type_line, type_lines, individual_line, individual_lines};
 
 use grades::Grader;
 use gradings::Logic;
-use refusals::Refusal;
 
-// Text in a buffer: its first `end` bytes.
+// Text in a buffer: its first `end` bytes. What writes keeps the reference (`same_buffer`), so that a caller knows its buffer afterwards.
 #[derive(Drop)]
 pub struct Text<'a> {
     pub buffer: &'a mut [u8],
@@ -32,6 +30,7 @@ impl<'a> Text<'a> {
     pub fn new(buffer: &'a mut [u8]) -> Text<'a>
         ensures empty { result.end ≡ 0 }
         ensures same { result.buffer.now ≡ buffer.old }
+        ensures same_buffer { result.buffer.ghost_name ≡ buffer.entry.ghost_name }
     {
         Text { buffer, end: 0 }
     }
@@ -46,7 +45,8 @@ impl<'a> Text<'a> {
 
     fn put_byte(&mut self, byte: u8)
         requires { self.old.end < length self.old.buffer.now }
-        ensures { Added self.old.buffer.now self.old.end (byte ∷ []) self.new.buffer.now self.new.end }
+        ensures added { Added self.old.buffer.now self.old.end (byte ∷ []) self.new.buffer.now self.new.end }
+        ensures same_buffer { self.new.buffer.ghost_name ≡ self.old.buffer.ghost_name }
     {
         self.buffer[self.end] = byte;
         self.end += 1;
@@ -54,7 +54,8 @@ impl<'a> Text<'a> {
 
     fn put_text(&mut self, text: &[u8])
         requires { self.old.end + length text.now ≤ length self.old.buffer.now }
-        ensures { Added self.old.buffer.now self.old.end text.now self.new.buffer.now self.new.end }
+        ensures added { Added self.old.buffer.now self.old.end text.now self.new.buffer.now self.new.end }
+        ensures same_buffer { self.new.buffer.ghost_name ≡ self.old.buffer.ghost_name }
     {
         let end = self.end + text.len();
         self.buffer[self.end..end].copy_from_slice(text);
@@ -63,7 +64,8 @@ impl<'a> Text<'a> {
 
     fn put_digit(&mut self, d: usize)
         requires { (d < 10) × (self.old.end < length self.old.buffer.now) }
-        ensures { Added self.old.buffer.now self.old.end (digit_byte d ∷ []) self.new.buffer.now self.new.end }
+        ensures added { Added self.old.buffer.now self.old.end (digit_byte d ∷ []) self.new.buffer.now self.new.end }
+        ensures same_buffer { self.new.buffer.ghost_name ≡ self.old.buffer.ghost_name }
     {
         self.put_byte(48 + d as u8);
     }
@@ -71,7 +73,8 @@ impl<'a> Text<'a> {
     // A number in decimal: its tenth, and then its last digit. By hand: std's `write!` into a slice answers an error where the room is used up.
     fn put_number(&mut self, n: usize)
         requires { self.old.end + length (decimal n) ≤ length self.old.buffer.now }
-        ensures { Added self.old.buffer.now self.old.end (decimal n) self.new.buffer.now self.new.end }
+        ensures added { Added self.old.buffer.now self.old.end (decimal n) self.new.buffer.now self.new.end }
+        ensures same_buffer { self.new.buffer.ghost_name ≡ self.old.buffer.ghost_name }
     {
         if n < 10 {
             self.put_digit(n);
@@ -86,6 +89,7 @@ impl<'a> Text<'a> {
         requires { self.old.end + length label.now + 20 ≤ length self.old.buffer.now }
         ensures added { Added self.old.buffer.now self.old.end (label.now ++ decimal n) self.new.buffer.now self.new.end }
         ensures upper_bound { self.new.end ≤ self.old.end + length label.now + 20 }
+        ensures same_buffer { self.new.buffer.ghost_name ≡ self.old.buffer.ghost_name }
     {
         self.put_text(label);
         self.put_number(n);
@@ -93,19 +97,21 @@ impl<'a> Text<'a> {
 
     fn put_newline(&mut self)
         requires { self.old.end < length self.old.buffer.now }
-        ensures { Added self.old.buffer.now self.old.end newline self.new.buffer.now self.new.end }
+        ensures added { Added self.old.buffer.now self.old.end newline self.new.buffer.now self.new.end }
+        ensures same_buffer { self.new.buffer.ghost_name ≡ self.old.buffer.ghost_name }
     {
         self.put_byte(b'\n');
     }
 
     // ---- the refusal and the outcome
 
-    pub fn refused_line(&mut self, r: Refusal)
+    pub fn refused_line(&mut self, n: u8)
         requires { self.old.end + 192 ≤ length self.old.buffer.now }
-        ensures added { Added self.old.buffer.now self.old.end (refused_line (number_of r)) self.new.buffer.now self.new.end }
+        ensures added { Added self.old.buffer.now self.old.end (refused_line n) self.new.buffer.now self.new.end }
         ensures upper_bound { self.new.end ≤ self.old.end + 192 }
+        ensures same_buffer { self.new.buffer.ghost_name ≡ self.old.buffer.ghost_name }
     {
-        self.put_labelled(b"refused ", usize::from(r.number()));
+        self.put_labelled(b"refused ", usize::from(n));
         self.put_newline();
     }
 
@@ -114,6 +120,7 @@ impl<'a> Text<'a> {
         requires { self.old.end + 192 ≤ length self.old.buffer.now }
         ensures added { Added self.old.buffer.now self.old.end (outcome_line outcome survivors) self.new.buffer.now self.new.end }
         ensures upper_bound { self.new.end ≤ self.old.end + 192 }
+        ensures same_buffer { self.new.buffer.ghost_name ≡ self.old.buffer.ghost_name }
     {
         self.put_labelled(b"outcome ", usize::from(outcome));
         self.put_labelled(b" survivors ", survivors);
@@ -125,7 +132,8 @@ impl<'a> Text<'a> {
     // A grade of one digit, a space before it.
     fn put_grade(&mut self, g: u8)
         requires { (g < 10) × (self.old.end + 2 ≤ length self.old.buffer.now) }
-        ensures { Added self.old.buffer.now self.old.end (spaced g) self.new.buffer.now self.new.end }
+        ensures added { Added self.old.buffer.now self.old.end (spaced g) self.new.buffer.now self.new.end }
+        ensures same_buffer { self.new.buffer.ghost_name ≡ self.old.buffer.ghost_name }
     {
         self.put_byte(b' ');
         self.put_digit(usize::from(g));
@@ -135,6 +143,7 @@ impl<'a> Text<'a> {
         requires { ((i : ℕ) → get_or row.now i 0 < 10) × (self.old.end + 2 * length row.now ≤ length self.old.buffer.now) }
         ensures added { Added self.old.buffer.now self.old.end (flat_map spaced row.now) self.new.buffer.now self.new.end }
         ensures value { self.new.end ≡ self.old.end + 2 * length row.now }
+        ensures same_buffer { self.new.buffer.ghost_name ≡ self.old.buffer.ghost_name }
     {
         for g in row {
             self.put_grade(*g);
@@ -147,6 +156,7 @@ impl<'a> Text<'a> {
         requires at_in_bounds { self.old.end + 192 ≤ length self.old.buffer.now }
         ensures added { Added self.old.buffer.now self.old.end (type_line c row.now) self.new.buffer.now self.new.end }
         ensures upper_bound { self.new.end ≤ self.old.end + 192 }
+        ensures same_buffer { self.new.buffer.ghost_name ≡ self.old.buffer.ghost_name }
     {
         self.put_labelled(b"type ", c);
         self.put_text(b" grades");
@@ -162,6 +172,7 @@ impl<'a> Text<'a> {
             (type_line c (row_of (grading grader.now.logic (terms_of grader.now.terms.now)) c))
             self.new.buffer.now self.new.end }
         ensures upper_bound { self.new.end ≤ self.old.end + 192 }
+        ensures same_buffer { self.new.buffer.ghost_name ≡ self.old.buffer.ghost_name }
     {
         let count = grader.terms.len() / 3;
         let mut row = [0u8; 64];
@@ -177,6 +188,7 @@ impl<'a> Text<'a> {
             (ite {C = List ℕ} (marked? marks.now c) (type_line c (row_of (grading grader.now.logic (terms_of grader.now.terms.now)) c)) [])
             self.new.buffer.now self.new.end }
         ensures upper_bound { self.new.end ≤ self.old.end + 192 }
+        ensures same_buffer { self.new.buffer.ghost_name ≡ self.old.buffer.ghost_name }
     {
         if marks[c] == 1 {
             self.type_line(grader, c);
@@ -199,6 +211,7 @@ impl<'a> Text<'a> {
             (type_lines (row_of (grading logic (terms_of terms.now))) (keep (marked? marks.now) (from first count)))
             self.new.buffer.now self.new.end }
         ensures upper_bound { self.new.end ≤ self.old.end + 192 * count }
+        ensures same_buffer { self.new.buffer.ghost_name ≡ self.old.buffer.ghost_name }
     {
         let grader = Grader::new(terms, logic);
         for i in 0..count {
@@ -213,6 +226,7 @@ impl<'a> Text<'a> {
         requires { self.old.end + 192 ≤ length self.old.buffer.now }
         ensures added { Added self.old.buffer.now self.old.end (individual_line j c) self.new.buffer.now self.new.end }
         ensures upper_bound { self.new.end ≤ self.old.end + 192 }
+        ensures same_buffer { self.new.buffer.ghost_name ≡ self.old.buffer.ghost_name }
     {
         self.put_labelled(b"individual ", j);
         self.put_labelled(b" type ", c);
@@ -226,6 +240,7 @@ impl<'a> Text<'a> {
             (individual_lines (λ j. word_at placement.now (2 * j)) count)
             self.new.buffer.now self.new.end }
         ensures upper_bound { self.new.end ≤ self.old.end + 192 * count }
+        ensures same_buffer { self.new.buffer.ghost_name ≡ self.old.buffer.ghost_name }
     {
         for j in 0..count {
             self.individual_line(j, encoding::word(placement, 2 * j));

@@ -11,6 +11,7 @@ unfolding individual_line labelled newline bytes
 returns c = record {
   added = added_then c.put_labelled.ensures.added
       (added_then c.put_labelled-2.ensures.added
-      c.put_newline.ensures);
+      c.put_newline.ensures.added);
   upper_bound = omega arith;
+  same_buffer = cc;
 }

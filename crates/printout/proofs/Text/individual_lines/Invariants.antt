@@ -1,6 +1,7 @@
 -- `printout::Text::individual_lines` meets its contract. Before individual `j` the lines of those before it have been added.
 -- Assumes nothing.
 use Prim.Native.Nat.{ℕ, ◌≤◌, ◌+◌, ◌*◌}
+use mathlib.Core.Path.{◌≡◌}
 use mathlib.Core.List.{List}
 use Rattle.encoding.specs.Words.{word_at}
 use Rattle.printout.specs.Text.{Added}
@@ -16,4 +17,5 @@ invariant-loop-j l =
     record {
       ends : l.self.end ≤ before.end + 192 * l.j;
       added : Added before.buffer.now before.end (individual_lines (placed l.placement) l.j) l.self.buffer.now l.self.end;
+      same_buffer : l.self.buffer.ghost_name ≡ before.buffer.ghost_name;
     }

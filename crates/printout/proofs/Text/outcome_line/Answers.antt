@@ -14,6 +14,7 @@ returns c = record {
   added = added_same (ap (λ (o : ℕ). outcome_line o c.args.survivors) c.from.ensures)
       (added_then c.put_labelled.ensures.added
       (added_then c.put_labelled-2.ensures.added
-      c.put_newline.ensures));
+      c.put_newline.ensures.added));
   upper_bound = omega arith;
+  same_buffer = cc;
 }

@@ -10,6 +10,6 @@ use Rattle.printout.proofs.Text.put_grade.Goals as goal
 pub put_digit-requires : goal.put_digit-requires
 put_digit-requires c = omega arith
 
-pub returns : goal.returns
-returns c =
-    added_same (spaced_small c.from.result (omega arith) ∙ ap spaced c.from.ensures) (added_then c.put_byte.ensures c.put_digit.ensures)
+pub returns-clause-added : goal.returns-clause-added
+returns-clause-added c =
+    added_same (spaced_small c.from.result (omega arith) ∙ ap spaced c.from.ensures) (added_then c.put_byte.ensures.added c.put_digit.ensures.added)

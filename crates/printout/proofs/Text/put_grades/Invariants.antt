@@ -12,4 +12,5 @@ abbrev pub invariant-loop-g : goal.invariant-loop-g
 invariant-loop-g l = record {
   ends : l.self.end ≡ l.initial.self.end + 2 * l.g-index;
   added : Added l.initial.self.buffer.now l.initial.self.end (flat_map spaced (take l.g-index l.row)) l.self.buffer.now l.self.end;
+  same_buffer : l.self.buffer.ghost_name ≡ l.initial.self.buffer.ghost_name;
 }

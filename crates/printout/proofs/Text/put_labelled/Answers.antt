@@ -10,6 +10,7 @@ put_number-requires c = omega (arith, decimal_short 19 c.args.n (omega arith))
 
 pub returns : goal.returns
 returns c = record {
-  added = added_then c.put_text.ensures c.put_number.ensures;
+  added = added_then c.put_text.ensures.added c.put_number.ensures.added;
   upper_bound = omega (arith, decimal_short 19 c.args.n (omega arith));
+  same_buffer = cc;
 }

@@ -4,5 +4,5 @@ use Rattle.printout.proofs.Lines.{newline-is}
 use Rattle.printout.proofs.Adding.{added_same}
 use Rattle.printout.proofs.Text.put_newline.Goals as goal
 
-pub returns : goal.returns
-returns c = added_same newline-is c.put_byte.ensures
+pub returns-clause-added : goal.returns-clause-added
+returns-clause-added c = added_same newline-is c.put_byte.ensures.added

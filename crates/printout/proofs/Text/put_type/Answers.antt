@@ -10,7 +10,8 @@ pub returns : goal.returns
 unfolding type_line labelled newline bytes
 returns c = record {
   added = added_then
-      c.put_labelled.ensures.added (added_then c.put_text.ensures
-      (added_then c.put_grades.ensures.added c.put_newline.ensures));
+      c.put_labelled.ensures.added (added_then c.put_text.ensures.added
+      (added_then c.put_grades.ensures.added c.put_newline.ensures.added));
   upper_bound = omega arith;
+  same_buffer = cc;
 }

@@ -27,4 +27,8 @@ pub returns : goal.returns
 returns c =
     let grader = c.args.grader.now in
     let front = row_front grader.logic grader.terms.now c.args.c _ _ c.fill_row.ensures in
-    record { added = added_same (ap (type_line c.args.c) front) c.put_type.ensures.added; upper_bound = c.put_type.ensures.upper_bound }
+    record {
+      added = added_same (ap (type_line c.args.c) front) c.put_type.ensures.added;
+      upper_bound = c.put_type.ensures.upper_bound;
+      same_buffer = c.put_type.ensures.same_buffer;
+    }

@@ -1,6 +1,6 @@
 -- `printout::Text::type_lines` meets its contract. Before candidate `first` + `i` the lines of those before it have been added.
 -- Assumes nothing.
-use mathlib.Core.Path.{◌≡◌}
+use mathlib.Core.Path.{◌≡◌, refl}
 use mathlib.Core.List.{List}
 use Prim.Native.Nat.{ℕ}
 use native.Mathlib.Omega.{arith}
@@ -20,6 +20,7 @@ pub loop-i-init : goal.loop-i-init
 loop-i-init c = record {
   ends = omega arith;
   added = added_same (types-none (rows c.args.terms.now c.args.logic) (marked? c.args.marks.now) c.args.first) (added_none _ _);
+  same_buffer = refl;
 }
 
 pub put_marked-requires : goal.put_marked-requires
@@ -36,6 +37,7 @@ loop-i-preserved c =
       ends = omega arith;
       added = added_same (types_more (rows c.args.terms.now c.args.logic) (marked? c.args.marks.now) c.args.first loop.i)
           (added_then loop.invariant.added (rw (g.logic_is, g.terms_are) at c.put_marked.ensures.added));
+      same_buffer = cc;
     }
 
 pub returns : goal.returns
@@ -45,4 +47,5 @@ returns c =
     record {
       added = added_same (rw e (types-all (rows c.args.terms.now c.args.logic) (marked? c.args.marks.now) c.args.first c.args.count)) loop.invariant.added;
       upper_bound = omega arith;
+      same_buffer = loop.invariant.same_buffer;
     }

@@ -1,5 +1,6 @@
 -- `printout::Text::type_lines` meets its contract. Before candidate `first` + `i` the lines of those before it have been added.
 -- Assumes nothing.
+use mathlib.Core.Path.{◌≡◌}
 use mathlib.Core.List.{List, flat_map}
 use Prim.Native.Nat.{ℕ, ◌≤◌, ◌+◌, ◌*◌}
 use Rattle.chain.specs.Lists.{from}
@@ -21,4 +22,5 @@ invariant-loop-i l =
     record {
       ends : l.self.end ≤ before.end + 192 * l.i;
       added : Added before.buffer.now before.end (flat_map (line_if (rows l.terms l.fn.logic) (marked? l.marks)) (from l.first l.i)) l.self.buffer.now l.self.end;
+      same_buffer : l.self.buffer.ghost_name ≡ before.buffer.ghost_name;
     }
