@@ -12,9 +12,11 @@ use native.Mathlib.Decide.{ℕ_discrete, dec_lt}
 use native.Mathlib.Omega.{arith}
 use lib.ListN.{length, get_or, take, drop, set, length-set}
 use lib.Seq.{take-suc-set, take-set-le, take-take, drop-cons, get_or-take, get_or-set_same, get_or-set_other, length-take-le}
+use Rattle.gradings.specs.declared.Logic.{Logic}
+use Rattle.network.specs.declared.Constraint.{Constraint}
 use Rattle.domains.specs.declared.Instance.{Instance}
 use Rattle.placer.specs.Walk.{walk}
-use Rattle.placer.specs.Seats.{May, may?, walk_of, SeatedBelow, FitsNext, FirstFit, Finds}
+use Rattle.placer.specs.Seats.{FitsNext, May, walk_of, FitsNextIn, MayIn, may_in?, walk_in, SeatedBelow, FirstFit, Finds}
 use Rattle.placer.proofs.Walk.{placed_true, rest, rest_start, rest_end, rest_skip, rest_back, rest-found}
 
 -- ---- those seated
@@ -28,20 +30,21 @@ seated-next v k c in-seats small h i l = dite (ℕ_discrete i k)
     (λ e. rw (e, get_or-set_same v k c 0 in-seats) small)
     (λ n. rw (get_or-set_other v k i c 0 n) (h i (omega (arith, n))))
 
-module _ (p : Instance) (table : List ℕ) where
-  -- what may come after the first k of the seats, as code has it
-  pub may-fits : (seats : List ℕ) (k : ℕ) → k ≤ length seats → (c : ℕ) → May p table (take k seats) c ↔ FitsNext p table seats k c
-  may-fits seats k h c = (
-    λ m. let f : FitsNext p table (take k seats) k c = rw (length-take-le k seats h) at m in
-        (f.0, λ i l. rw (← get_or-take k seats i 0 l) (f.1 i l)),
-    λ f. rw (length-take-le k seats h) (f.0, λ i l. rw (get_or-take k seats i 0 l) (f.1 i l)),
-  )
+-- what may come after the first k of the seats, as code has it
+pub may-fits : (l : Logic) (net : List Constraint) (ends rows table seats : List ℕ) (k : ℕ) → k ≤ length seats → (c : ℕ)
+    → May l net ends rows table (take k seats) c ↔ FitsNext l net ends rows table seats k c
+may-fits l net ends rows table seats k h c = (
+  λ m. let f : FitsNext l net ends rows table (take k seats) k c = rw (length-take-le k seats h) at m in
+      (f.0, λ i z. rw (← get_or-take k seats i 0 z) (f.1 i z)),
+  λ f. rw (length-take-le k seats h) (f.0, λ i z. rw (get_or-take k seats i 0 z) (f.1 i z)),
+)
 
+module _ (p : Instance) (table : List ℕ) where
   -- ---- one turn of the loop over candidates
 
   -- the rest of the search for individual k and those after it, from the candidate c on
   abbrev rest_of : (k : ℕ) (q : List ℕ) (c : ℕ) → Option (List ℕ)
-  rest_of k q c = rest (May p table) (may? p table) p.count (p.individuals - (k + 1)) q c
+  rest_of k q c = rest (MayIn p table) (may_in? p table) p.count (p.individuals - (k + 1)) q c
 
   -- individual k is next, after those seated by q, which are the first k of the seats; and of the search what is left is the rest from the
   -- candidate c on
@@ -50,10 +53,10 @@ module _ (p : Instance) (table : List ℕ) where
     pub room : p.individuals ≤ length seats
     pub seated : SeatedBelow seats k
     pub same : take k seats ≡ q
-    pub left : walk_of p table (p.individuals - k) q ≡ rest_of k q c
+    pub left : walk_in p table (p.individuals - k) q ≡ rest_of k q c
 
   pub no_one_left : (k : ℕ) (seats v : List ℕ) → k ≡ p.individuals
-      → some (take (p.individuals - k) v) ≡ walk_of p table (p.individuals - k) (take k seats)
+      → some (take (p.individuals - k) v) ≡ walk_in p table (p.individuals - k) (take k seats)
   unfolding walk_of walk
   no_one_left k seats v e = let z : p.individuals - k ≡ 0 = omega arith in rw z refl
 
@@ -64,33 +67,33 @@ module _ (p : Instance) (table : List ℕ) where
     room = l;
     seated = s;
     same = refl;
-    left = rest_start (May p table) (may? p table) p.count (p.individuals - (k + 1)) (take k seats) (p.individuals - k) (omega arith);
+    left = rest_start (MayIn p table) (may_in? p table) p.count (p.individuals - (k + 1)) (take k seats) (p.individuals - k) (omega arith);
   }
 
 module _ {p : Instance} {table : List ℕ} {k : ℕ} {q seats : List ℕ} {c : ℕ} (t : Turn p table k q seats c) where
   -- the whole search, and what is left of it from a candidate on
   abbrev W : Option (List ℕ)
-  W = walk_of p table (p.individuals - k) q
+  W = walk_in p table (p.individuals - k) q
 
   abbrev R : ℕ → Option (List ℕ)
   R = rest_of p table k q
 
   past : (a : ℕ) → p.count ≤ a → R a ≡ none
-  past = rest_end (May p table) (may? p table) p.count (p.individuals - (k + 1)) q
+  past = rest_end (MayIn p table) (may_in? p table) p.count (p.individuals - (k + 1)) q
 
-  may : (e : ℕ) → May p table q e ↔ FitsNext p table seats k e
-  may e = rw (← t.same) (may-fits p table seats k (omega (arith, t.some_left, t.room)) e)
+  may : (e : ℕ) → MayIn p table q e ↔ FitsNextIn p table seats k e
+  may e = rw (← t.same) (may-fits p.network.logic p.network.constraints.now p.network.ends.now p.rows.now table seats k (omega (arith, t.some_left, t.room)) e)
 
   -- those before d do not fit: they are passed over
-  over : (d : ℕ) → d ≤ p.count → c ≤ d → ((e : ℕ) → c ≤ e → e < d → ¬ FitsNext p table seats k e) → R c ≡ R d
+  over : (d : ℕ) → d ≤ p.count → c ≤ d → ((e : ℕ) → c ≤ e → e < d → ¬ FitsNextIn p table seats k e) → R c ≡ R d
   over d g l unfit =
       let z : c + (d - c) ≡ d = omega arith in
-      rest_skip (May p table) (may? p table) p.count (p.individuals - (k + 1)) q c (d - c)
+      rest_skip (MayIn p table) (may_in? p table) p.count (p.individuals - (k + 1)) q c (d - c)
       (λ e a b m. unfit e a (omega arith) ((may e).0 m))
       ∙ ap R z
 
   -- none fits
-  pub turn_none : ((e : ℕ) → c ≤ e → e < p.count → ¬ FitsNext p table seats k e) → none ≡ W
+  pub turn_none : ((e : ℕ) → c ≤ e → e < p.count → ¬ FitsNextIn p table seats k e) → none ≡ W
   turn_none unfit =
       sym (t.left ∙ dite (dec_lt c p.count) (λ l. over p.count (omega arith) (omega arith) unfit ∙ past p.count (omega arith)) (λ l. past c (omega arith)))
 
@@ -101,7 +104,7 @@ module _ {p : Instance} {table : List ℕ} {k : ℕ} {q seats : List ℕ} {c : �
 
     -- the search behind it
     abbrev behind : Option (List ℕ)
-    behind = walk_of p table (p.individuals - (k + 1)) (take (k + 1) (set seats k r))
+    behind = walk_in p table (p.individuals - (k + 1)) (take (k + 1) (set seats k r))
 
     begins : take (k + 1) (set seats k r) ≡ q ++ r ∷ []
     begins = rw (add-one k, take-suc-set seats k r (omega (arith, t.some_left, t.room)), t.same) refl
@@ -110,7 +113,7 @@ module _ {p : Instance} {table : List ℕ} {k : ℕ} {q seats : List ℕ} {c : �
     unfolding walk_of
     turn_some v e =
         turn_next
-        ∙ rest-found (May p table) (may? p table) p.count (p.individuals - (k + 1)) q r next.below ((may r).1 next.fits) v (rw (← begins) e)
+        ∙ rest-found (MayIn p table) (may_in? p table) p.count (p.individuals - (k + 1)) q r next.below ((may r).1 next.fits) v (rw (← begins) e)
 
     -- u are the seats after it: they are found, or the loop goes on
     module _ (u : List ℕ) (long : length u ≡ length seats) (first : take (k + 1) u ≡ take (k + 1) (set seats k r)) where
@@ -130,7 +133,7 @@ module _ {p : Instance} {table : List ℕ} {k : ℕ} {q seats : List ℕ} {c : �
           seated = seated-same seats u k kept t.seated;
           same = kept ∙ t.same;
           left = turn_next
-              ∙ rest_back (May p table) (may? p table) p.count (p.individuals - (k + 1)) q r next.below ((may r).1 next.fits) (rw (← begins) (sym e));
+              ∙ rest_back (MayIn p table) (may_in? p table) p.count (p.individuals - (k + 1)) q r next.below ((may r).1 next.fits) (rw (← begins) (sym e));
         };
       }
         where
@@ -155,7 +158,7 @@ pub record AtOnce (p : Instance) (table : List ℕ) (k : ℕ) (seats : List ℕ)
   pub few : k ≤ p.individuals
   pub room : p.individuals ≤ length seats
   pub seated : SeatedBelow seats k
-  pub onward : (v : List ℕ) → walk_of p table (p.individuals - k) (take k seats) ≡ some v → walk_of p table p.individuals [] ≡ some (take k seats ++ v)
+  pub onward : (v : List ℕ) → walk_in p table (p.individuals - k) (take k seats) ≡ some v → walk_in p table p.individuals [] ≡ some (take k seats ++ v)
 
 pub at_once_none : (p : Instance) (table seats : List ℕ) → p.individuals ≤ length seats → AtOnce p table 0 seats
 at_once_none p table seats l = record {

@@ -8,7 +8,7 @@ ghost use Rattle.levels.specs.Rows.{row_at};
 ghost use Rattle.domains.specs.Consistent.{Graded};
 ghost use Rattle.supports.specs.Arcs.{FitsIn, Domains};
 ghost use Rattle.placer.specs.Walk.{placed};
-ghost use Rattle.placer.specs.Seats.{walk_of, SeatedBelow, NextFit, Finds};
+ghost use Rattle.placer.specs.Seats.{walk_in, SeatedBelow, NextFit, Finds};
 ghost use Rattle.placer.specs.Placing.{Task, Places};
 
 use domains::{Instance, in_vain, leap, note_all_gaps};
@@ -77,7 +77,7 @@ fn place_from(instance: &Instance<'_>, table: &[u8], seats: &mut [u16], k: usize
     requires k_le_individuals { (k ≤ instance.now.individuals) × (instance.now.individuals ≤ length seats.old) × SeatedBelow seats.old k }
     ensures seats_unchanged { take k seats.new ≡ take k seats.old }
     ensures seats_after { placed result (take (instance.now.individuals - k) (drop k seats.new))
-        ≡ walk_of instance.now table.now (instance.now.individuals - k) (take k seats.old) }
+        ≡ walk_in instance.now table.now (instance.now.individuals - k) (take k seats.old) }
 {
     if k == instance.individuals {
         return true;

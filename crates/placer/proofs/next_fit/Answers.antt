@@ -4,7 +4,7 @@ use mathlib.Core.Path.{◌≡◌, subst}
 use mathlib.Core.Logic.{dite}
 use native.Mathlib.Decide.{dec_lt}
 use native.Mathlib.Omega.{arith}
-use Rattle.placer.specs.Seats.{FitsNext}
+use Rattle.placer.specs.Seats.{FitsNextIn}
 use Rattle.placer.proofs.next_fit.Goals as goal
 
 pub returns-then-fits_seated : goal.returns-then-fits_seated
@@ -22,5 +22,5 @@ loop-c-preserved c =
     let l = c.loop-c in record {
       from_start = omega (arith, l.invariant.from_start);
       none = λ e x y. dite (dec_lt e l.c) (λ z. l.invariant.none e x z) (λ z m. let q : e ≡ l.c = omega arith in
-          c.fits_seated.ensures.1 c.if-fits_seated.false (subst (FitsNext a.instance.now a.table.now a.seats.now a.k) q m).1);
+          c.fits_seated.ensures.1 c.if-fits_seated.false (subst (FitsNextIn a.instance.now a.table.now a.seats.now a.k) q m).1);
     }

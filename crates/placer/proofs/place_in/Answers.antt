@@ -28,4 +28,5 @@ place_thinned-requires-clause-graded c =
 
 pub returns : goal.returns
 returns c =
-    found-placement _ _ c.place_thinned.result _ c.place_thinned.ensures (prepared c.requires.task c.connect.ensures) (rw c.new.ensures.terms_are at c.fill_tables.ensures)
+    found-placement (prepared c.requires.task c.connect.ensures) c.fill_tables.new.rows _ (rw c.new.ensures.terms_are at c.fill_tables.ensures)
+    c.place_thinned.result _ c.place_thinned.ensures
