@@ -2,12 +2,12 @@
 
 #![tactic(auto)]
 
-ghost use Rattle.std.specs.Prelude.{◌≡◌, ◌≤◌, length};
+ghost use Rattle.std.specs.Prelude.{◌≡◌, ℕ, ◌<◌, ◌≤◌, length};
 ghost use Rattle.chain.specs.Search.{rank};
 ghost use Rattle.elimination.specs.Marks.{marked?};
 ghost use Rattle.witness_boxes.specs.Lent.{tables_of};
 ghost use Rattle.witness_boxes.specs.Search.{Remembers};
-ghost use Rattle.passes.specs.Sweeps.{Into, Noted, Judged, Dropped, State, Swept};
+ghost use Rattle.passes.specs.Sweeps.{class_of, Noted, Judged, Dropped, State, Swept};
 ghost use Rattle.passes.specs.Lent.{classes_of};
 
 use witness_boxes::WitnessTables;
@@ -19,7 +19,7 @@ pub use candidates::Candidates;
 
 // Notes the classes that marked candidates have, and no others.
 pub fn note_all(class: &[u16], marks: &[u8], seen: &mut [u8])
-    requires { (length class.now ≡ length marks.now) × Into class.now (length seen.old) }
+    requires { (length marks.now ≤ length class.now) × ((c : ℕ) → c < length marks.now → class_of class.now c < length seen.old) }
     ensures { Noted class.now marks.now seen.new (length marks.now) }
 {
     seen.fill(0);
@@ -57,7 +57,7 @@ fn pass_all(
     left: usize,
 ) -> usize
     requires left_value { left ≡ rank (marked? marks.old) (length marks.old) }
-    requires sizes { (length marks.old ≡ length k.now.source.now) × (length alive.now ≡ length k.now.tables.now.own.now)
+    requires sizes { (length marks.old ≤ length k.now.source.now) × (length alive.now ≡ length k.now.tables.now.own.now)
         × (length present.old ≡ length k.now.tables.now.child.now) }
     ensures value { result ≡ rank (marked? marks.new) (length marks.old) }
     ensures dropped { Dropped k.now.source.now alive.now 0 (length marks.old) marks.old marks.new left result }
@@ -89,7 +89,7 @@ pub fn sweep(
     marks: &mut [u8],
     left: usize,
 ) -> usize
-    requires sizes { (length marks.old ≡ length k.now.source.now) × (length alive.old ≡ length k.now.tables.now.own.now)
+    requires sizes { (length marks.old ≤ length k.now.source.now) × (length alive.old ≡ length k.now.tables.now.own.now)
         × (length present.old ≡ length k.now.tables.now.child.now) × (length k.now.tables.now.own.now ≤ length memory.old) }
     requires state { State (classes_of k.now) (length marks.old) marks.old memory.old alive.old present.old left }
     ensures state_2 { State (classes_of k.now) (length marks.old) marks.new memory.new alive.new present.new result }

@@ -18,7 +18,7 @@ fn settle_in(
     marks: &mut [u8],
     left: usize,
 ) -> usize
-    requires sizes { (length marks.old ≡ length k.now.source.now) × (length alive.old ≡ length k.now.tables.now.own.now)
+    requires sizes { (length marks.old ≤ length k.now.source.now) × (length alive.old ≡ length k.now.tables.now.own.now)
         × (length present.old ≡ length k.now.tables.now.child.now) × (length k.now.tables.now.own.now ≤ length memory.old) }
     requires counted { Counted (length marks.old) marks.old left }
     requires no_memory { (a q : ℕ) → cell memory.old a q ≡ 0 }
@@ -39,7 +39,7 @@ fn settle_in(
 
 // Sweeps until no mark goes; there are `left` at first. The number of marks left.
 pub fn settle(k: &Candidates, marks: &mut [u8], left: usize) -> usize
-    requires same_count { length marks.old ≡ length k.now.source.now }
+    requires classified { length marks.old ≤ length k.now.source.now }
     requires counted { Counted (length marks.old) marks.old left }
     ensures { Settled (classes_of k.now) (length marks.old) marks.old marks.new result }
 {
