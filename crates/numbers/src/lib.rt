@@ -5,8 +5,8 @@
 ghost use Rattle.std.specs.Prelude.{◌≡◌};
 ghost use Rattle.numbers.specs.Numbers.{checked_number, counted_numbers, decided_numbers, implied_numbers, written_numbers, verdict_numbers, worked_numbers, graded_numbers};
 
-use book::Book;
 use decisions::Decision;
+use layout::Sections;
 use refusals::Refusal;
 use working::Verdict;
 
@@ -62,8 +62,8 @@ pub struct GradedNumbers {
 
 // ---- answers as numbers
 
-pub fn checked_number(a: Result<Book<'_>, Refusal>) -> u8
-    ensures { result ≡ checked_number a.entry }
+pub fn checked_number(a: Result<Sections, Refusal>) -> u8
+    ensures { result ≡ checked_number a }
 {
     match a {
         Ok(_) => 0,

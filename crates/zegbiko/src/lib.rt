@@ -23,7 +23,10 @@ use numbers::{
 pub extern "C" fn zegbiko_check(b: &[u8]) -> u8
     ensures { result ≡ checked_number (opened_of b.now) }
 {
-    checked_number(book::open(b))
+    match book::open(b) {
+        Ok(book) => checked_number(Ok(book.sections)),
+        Err(r) => checked_number(Err(r)),
+    }
 }
 
 // Checks a book and counts its candidates.
