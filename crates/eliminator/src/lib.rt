@@ -15,7 +15,7 @@ ghost use Rattle.entries.specs.Lent.{grading_of, rules_in};
 use entries::{Theory, enter};
 use grades::Grader;
 use gradings::Logic;
-use partition::Classes;
+use partition::{Classes, Index};
 use passes::Candidates;
 use sweeps::settle;
 use witness_boxes::WitnessTables;
@@ -31,9 +31,12 @@ fn enter_all(
     requires { (length marks.old ≤ 16384) × (sources.old.count ≡ 0) × (targets.old.count ≡ 0) }
     ensures { Entered (grading_of theory.now) (rules_in theory.now) theory.now.slots.now sources.new targets.new marks.new (length marks.old) result }
 {
+    // They lie here, and not with the classes: once all are entered nothing looks into them, and the sweeps have their room.
+    let mut first = Index { places: [0; 16384] };
+    let mut second = Index { places: [0; 16384] };
     let mut left = 0;
     for c in 0..marks.len() {
-        left += usize::from(enter(theory, c, sources, targets, marks));
+        left += usize::from(enter(theory, c, sources, targets, &mut first, &mut second, marks));
     }
     left
 }

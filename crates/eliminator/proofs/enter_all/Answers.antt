@@ -11,4 +11,4 @@ loop-c-init c =
     entered_none (grading_of t) (rules_in t) t.slots.now a.sources.now a.targets.now a.marks.now c.requires.1 c.requires.2
 
 pub loop-c-preserved : goal.loop-c-preserved
-loop-c-preserved c = rw c.from-left.ensures (c.enter.ensures c.loop-c.left c.loop-c.invariant)
+loop-c-preserved c = rw c.from-left.ensures (c.enter.ensures.entered c.loop-c.left c.loop-c.invariant)

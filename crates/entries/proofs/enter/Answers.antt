@@ -26,8 +26,8 @@ put_slot_row-requires c =
     let g = t.grader.now in
     (omega (arith, t.few_slots), λ q h. omega (arith, t.slots_right q h, g.terms_few, length-terms g.terms.now))
 
-pub returns : goal.returns
-returns c =
+pub returns-clause-entered : goal.returns-clause-entered
+returns-clause-entered c =
     let a = c.args in
     let t = a.theory.now in
     let slots = t.slots.now in
@@ -44,4 +44,4 @@ returns c =
     grades mark.result c.requires.0 mark.ensures.0 mark.ensures.1
     (length-take-le m part (omega (arith, t.few_slots))) (part-own slots (grade_in G a.c) part shown)
     (rw size (length-take-le m (drop m part) (omega (arith, t.few_slots, length-drop m part)))) (λ q h. rw size (part-child slots (grade_in G a.c) part shown q h))
-    c.enroll.ensures c.enroll-2.ensures
+    c.enroll.ensures.enrolled c.enroll-2.ensures.enrolled

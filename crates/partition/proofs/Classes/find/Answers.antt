@@ -10,4 +10,4 @@ use Rattle.partition.proofs.Classes.find.Goals as goal
 pub returns : goal.returns
 returns c =
     let same = (bytes_eq-Decides _ _).0 (not-false _ (sym c.ne.ensures ∙ c.if-ne.false)) in
-    (omega (arith, c.if-known-eq0.false, c.from-known.ensures, c.args.self.now.names c.args.key), row-of c.args.self.now.rows _ c.args.row.now same)
+    (omega arith, row-of c.args.self.now.rows _ c.args.row.now same)
