@@ -23,7 +23,7 @@ use Rattle.semantics.specs.Links.{Governs, TermAllows}
 use Rattle.semantics.proofs.Terms.{local_same}
 use Rattle.semantics.proofs.Quantified.{quantified_alike}
 use Rattle.types.specs.Candidates.{place, HasPlace, Opens, opens?, home as home_of, grade_in}
-use Rattle.types.proofs.Candidates.{home_no_later, opens-home, grade_in-local, grade_in_le, grade_in-opens, grade_in-home}
+use Rattle.types.proofs.Candidates.{home_no_later, home-opens, opens-home, grade_in-local, grade_in_le, grade_in-opens, grade_in-home}
 use Rattle.places.proofs.Places.{opens_not, open_before, none_open, open_more, open_same}
 use Rattle.gradings.specs.Gradings.{connectives_of, grading}
 use Rattle.gradings.specs.declared.Logic.{Logic}
@@ -130,6 +130,24 @@ module _ (B c : ℕ) (s xs : List ℕ) (h : length xs < term_count s) where
 pub quantified_place : (q : Quantifier) (r c : ℕ) → HasPlace (place (quantified q r c))
 quantified_place existential r c = tt
 quantified_place universal r c = tt
+
+-- it opens its place, and so has the digit and takes it off
+module _ (s xs : List ℕ) (h : length xs < term_count s) (q : Quantifier) (r x : ℕ) (e : quantified q r x ≡ term_at s (length xs)) where
+  quantified-opens : Opens (terms_of s) (length xs)
+  quantified-opens = go q (term-at s (length xs) h ∙ sym e)
+    where
+      go : (p : Quantifier) → term (terms_of s) (length xs) ≡ quantified p r x → Opens (terms_of s) (length xs)
+      go existential f = rw f tt
+      go universal f = rw f tt
+
+  pub grade-quantified : (l : Logic) (d : ℕ) → d ≡ next_grade l d (home_of (terms_of s) (length xs)) s xs
+  grade-quantified l d =
+      place-digit d (home_of (terms_of s) (length xs)) xs
+      (λ m. omega (arith, m, home-opens (terms_of s) (length xs) (rw (length-terms s) h) quantified-opens))
+      ∙ grade-place l d (home_of (terms_of s) (length xs)) s xs (rw (← e) (quantified_place q r x))
+
+  pub rest-quantified : (B c : ℕ) → c / B ≡ rest_after B (terms_of s) (length xs) c
+  rest-quantified B c = rest-opens B c (terms_of s) (length xs) quantified-opens
 
 -- ---- a row, one grade after the other
 

@@ -49,8 +49,18 @@ impl<'a> Grader<'a> {
         }
     }
 
-    // The next term's grade, where it has a place: that of the earlier term which opens the place, or the lowest digit in base steps + 1, which is
-    // taken off.
+    // The next term's, where it opens a place: the lowest digit in base steps + 1, which is taken off.
+    fn digit_grade(&self, rest: u32) -> Graded
+        ensures { (result.grade ≡ rest % (self.now.logic.steps + 1)) × (result.rest ≡ rest / (self.now.logic.steps + 1)) }
+    {
+        let base = u32::from(self.logic.steps) + 1;
+        Graded {
+            grade: (rest % base) as u8,
+            rest: rest / base,
+        }
+    }
+
+    // The next term's, where it has a place: that of the earlier term which opens the place, or the next digit.
     fn place_grade(&self, rest: u32, earlier: &[u8]) -> Graded
         requires is_next { length earlier.now < term_count self.now.terms.now }
         ensures grade_value { result.grade ≡ grade_of_place (rest % (self.now.logic.steps + 1))
@@ -63,11 +73,7 @@ impl<'a> Grader<'a> {
             let grade = earlier[home];
             return Graded { grade, rest };
         }
-        let base = u32::from(self.logic.steps) + 1;
-        Graded {
-            grade: (rest % base) as u8,
-            rest: rest / base,
-        }
+        self.digit_grade(rest)
     }
 
     // The next term's grade, where `earlier` has the grades of the terms before it.
@@ -97,7 +103,9 @@ impl<'a> Grader<'a> {
                 rest,
             },
             Term::Bottom => Graded { grade: 0, rest },
-            Term::Name(_) | Term::Quantified { .. } => self.place_grade(rest, earlier),
+            // It opens its place, so no home is looked at.
+            Term::Quantified { .. } => self.digit_grade(rest),
+            Term::Name(_) => self.place_grade(rest, earlier),
         }
     }
 

@@ -20,12 +20,16 @@ fn both_below(a: u8, a_limit: usize, b: u8, b_limit: usize) -> bool
 fn described(i: usize, kind: u8, a: u8, b: u8) -> bool
     ensures { Tells result (Described i kind a b) }
 {
+    // An arm for each kind: two kinds in one arm are compared apart, after the table of the others.
     match kind {
         0 => both_below(a, 16, b, 1),
         1 => both_below(a, i, b, 1),
-        2 | 3 => both_below(a, i, b, i),
-        4 | 5 => both_below(a, 8, b, i),
-        6 | 7 => both_below(a, 1, b, 1),
+        2 => both_below(a, i, b, i),
+        3 => both_below(a, i, b, i),
+        4 => both_below(a, 8, b, i),
+        5 => both_below(a, 8, b, i),
+        6 => both_below(a, 1, b, 1),
+        7 => both_below(a, 1, b, 1),
         _ => false,
     }
 }
@@ -85,22 +89,21 @@ pub fn read_term(s: &[u8], i: usize) -> Term
     requires { i < term_count s.now }
     ensures { as_term result ≡ term_of_bytes s.now i }
 {
-    let a = s[3 * i + 1];
-    let b = s[3 * i + 2];
+    // Each operand is read where it is used.
     match s[3 * i] {
-        0 => Term::Name(a),
-        1 => Term::Not(a),
-        2 => Term::And(a, b),
-        3 => Term::Or(a, b),
+        0 => Term::Name(s[3 * i + 1]),
+        1 => Term::Not(s[3 * i + 1]),
+        2 => Term::And(s[3 * i + 1], s[3 * i + 2]),
+        3 => Term::Or(s[3 * i + 1], s[3 * i + 2]),
         4 => Term::Quantified {
             quantifier: Quantifier::Existential,
-            role: a,
-            child: b,
+            role: s[3 * i + 1],
+            child: s[3 * i + 2],
         },
         5 => Term::Quantified {
             quantifier: Quantifier::Universal,
-            role: a,
-            child: b,
+            role: s[3 * i + 1],
+            child: s[3 * i + 2],
         },
         6 => Term::Top,
         _ => Term::Bottom,
@@ -113,5 +116,9 @@ pub fn term_at(s: &[u8], i: usize) -> Term
     ensures term_value { as_term result ≡ term_of_bytes s.now i }
     ensures operands_below { OperandsBelow i result }
 {
+    // A name needs no table of kinds: this is the innermost step of every row.
+    if s[3 * i] == 0 {
+        return Term::Name(s[3 * i + 1]);
+    }
     read_term(s, i)
 }

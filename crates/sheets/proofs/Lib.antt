@@ -1,3 +1,4 @@
+pub mod Blocks
 pub mod Entries
 pub mod Opening
 pub mod Reading

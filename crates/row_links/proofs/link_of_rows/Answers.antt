@@ -17,7 +17,7 @@ pub returns-then-rows_allow : goal.returns-then-rows_allow
 returns-then-rows_allow c = sym (c.loop-level.invariant ∙ greatest_yes _ _ (c.rows_allow.ensures.0 c.if-rows_allow.true))
 
 pub loop-level-preserved : goal.loop-level-preserved
-loop-level-preserved c = c.loop-level.invariant ∙ greatest_no _ _ c.loop-level-test.true (c.rows_allow.ensures.1 c.if-rows_allow.false)
+loop-level-preserved c = c.loop-level.invariant ∙ greatest_no _ _ (omega (arith, c.loop-level-test.true)) (c.rows_allow.ensures.1 c.if-rows_allow.false)
 
 pub returns : goal.returns
 returns c =

@@ -24,6 +24,6 @@ returns c =
     let is = c.from-home.ensures ∙ a.self.now.homes_are _ c.requires.is_next in
     let n : ¬ (home_of (terms_of a.self.now.terms.now) (length a.earlier.now) < length a.earlier.now) = λ h. omega (arith, is, h, c.if-home-earlier.false) in
     record {
-      grade_value = rw c.from-base.ensures (place-digit _ _ a.earlier.now n);
-      rest_value = rw c.from-base.ensures (left-digit _ _ a.earlier.now a.rest n);
+      grade_value = c.digit_grade.ensures.0 ∙ place-digit _ _ a.earlier.now n;
+      rest_value = c.digit_grade.ensures.1 ∙ left-digit _ _ a.earlier.now a.rest n;
     }
