@@ -33,7 +33,8 @@ fn decide_by(
     placement: &mut [u8],
 ) -> Result<Decision, Refusal> {
     if opened {
-        decider::decide_in(book::open(b)?, marks, placement)
+        let book = book::open(b)?;
+        opened::decide(b, book.sections, marks, placement)
     } else {
         decider::decide(b, marks, placement)
     }

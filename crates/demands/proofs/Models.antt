@@ -12,7 +12,6 @@ use Rattle.semantics.specs.Books.{Satisfiable, RulesSatisfiable}
 use Rattle.book.specs.Reading.{book_of}
 use Rattle.decider.specs.Deciding.{Decidable, decision_of, outcome_in}
 use Rattle.std.specs.Prelude.{Ok}
-use Rattle.decisions.specs.Decided.{outcome_number, outcome_numbered}
 use Rattle.decider.proofs.Deciding.{decision_decided}
 use Rattle.demands.specs.Demand3.{outcome_1_holds_together, outcome_2_claims_fail, outcome_3_no_model}
 use Rattle.demands.specs.Readings.{Reading, link_reading, book_reading, Reads, readings, printed, under_some, some_bottom}
@@ -34,12 +33,11 @@ models_of (link_reading b c d l) r = tt
 models_of (book_reading b o k ms ps) r =
     let marks = zeros (length ms) in
     let buffer = zeros 16 in
-    let a : decision_of b (length marks) (length buffer) ≡ Ok (record { outcome = outcome_numbered o; survivors = k }) =
-    (r marks buffer (omega (arith, length-table {A = ℕ} (λ _. 0) (length ms))) (omega (arith, length-table {A = ℕ} (λ _. 0) 16))).0 in
-    let d : Decidable b (length marks) (length buffer) = (decision_decided _ _ _ a).0 in (
-      λ e. (outcome_1_holds_together b marks buffer d).0 (ap outcome_in a ∙ ap (λ (n : ℕ). outcome_number (outcome_numbered n)) e),
-      λ e. (outcome_2_claims_fail b marks buffer d).0 (ap outcome_in a ∙ ap (λ (n : ℕ). outcome_number (outcome_numbered n)) e),
-      λ e. (outcome_3_no_model b marks buffer d).0 (ap outcome_in a ∙ ap (λ (n : ℕ). outcome_number (outcome_numbered n)) e),
+    let said = (r marks buffer (omega (arith, length-table {A = ℕ} (λ _. 0) (length ms))) (omega (arith, length-table {A = ℕ} (λ _. 0) 16))).0 in
+    let d : Decidable b (length marks) (length buffer) = (decision_decided _ _ _ said.1).0 in (
+      λ e. (outcome_1_holds_together b marks buffer d).0 (ap outcome_in said.1 ∙ said.2 ∙ e),
+      λ e. (outcome_2_claims_fail b marks buffer d).0 (ap outcome_in said.1 ∙ said.2 ∙ e),
+      λ e. (outcome_3_no_model b marks buffer d).0 (ap outcome_in said.1 ∙ said.2 ∙ e),
     )
 
 models : Each Models readings

@@ -28,7 +28,7 @@ use Rattle.book.specs.Reading.{book_of}
 use Rattle.counter.specs.Counting.{few_candidates?, candidate_questions}
 use Rattle.asking.specs.Asking.{graded_by, link_answer}
 use Rattle.marking.specs.Marking.{marked_in}
-use Rattle.decisions.specs.Decided.{outcome_numbered, decision, placed_in}
+use Rattle.decisions.specs.Decided.{outcome_number, outcome_numbered, decision, placed_in}
 use Rattle.decider.specs.Deciding.{decision_of, marks_after, placement_after, Decidable}
 use Rattle.decider.proofs.Deciding as Deciding
 use Rattle.marking.proofs.Marking as Marks
@@ -44,14 +44,15 @@ abbrev Computes : Reading → Type 0
 Computes (link_reading b c d l) = link_answer b 0 c d ≡ Ok l
 Computes (book_reading b o k ms ps) =
     (first_no (candidate_questions b) ≡ none) × (candidates (book_of b).grading ≡ length ms) × (decision (book_of b) ≡ record { outcome = outcome_numbered o; survivors = k })
+    × (outcome_number (outcome_numbered o) ≡ o)
     × ((marks : List ℕ) → marked_in (book_of b) marks ≡ ms ++ drop (length ms) marks)
     × ((buffer : List ℕ) → placed_in (placement (book_of b)) buffer ≡ ps ++ drop (length ps) buffer)
 
 computed : (q : Reading) → Computes q → Reads q
 computed (link_reading b c d l) e = e
-computed (book_reading b o k ms ps) (asked, count, answer, marks-are, placement-is) = λ marks buffer h g.
+computed (book_reading b o k ms ps) (asked, count, answer, number, marks-are, placement-is) = λ marks buffer h g.
     let d : Decidable b (length marks) (length buffer) = Deciding.decide_none b (length marks) (length buffer) asked (rw count h) g in
-    (Left.decided_is (book_of b) _ d ∙ ap Ok answer, Marks.marks-are (book_of b) _ marks d ∙ marks-are marks, Left.placement-is (book_of b) _ d buffer ∙ placement-is buffer)
+    ((_, Left.decided_is (book_of b) _ d ∙ ap Ok answer, number, refl), Marks.marks-are (book_of b) _ marks d ∙ marks-are marks, Left.placement-is (book_of b) _ d buffer ∙ placement-is buffer)
 
 computing : Each Computes readings
 unfolding graded_by first_no says length_right? edition_right? steps_right? counts_right? laid_out? terms_right? rules_right? memberships_right? links_right? pairs_right? few_candidates?
@@ -66,18 +67,18 @@ computing = (
       (
         refl,
         (
-          (refl, refl, refl, λ _. refl, λ _. refl),
+          (refl, refl, refl, refl, λ _. refl, λ _. refl),
           (
-            (refl, refl, refl, λ _. refl, λ _. refl),
+            (refl, refl, refl, refl, λ _. refl, λ _. refl),
             (
-              (refl, refl, refl, λ _. refl, λ _. refl),
+              (refl, refl, refl, refl, λ _. refl, λ _. refl),
               (
-                (refl, refl, refl, λ _. refl, λ _. refl),
+                (refl, refl, refl, refl, λ _. refl, λ _. refl),
                 (
-                  (refl, refl, refl, λ _. refl, λ _. refl),
+                  (refl, refl, refl, refl, λ _. refl, λ _. refl),
                   (
-                    (refl, refl, refl, λ _. refl, λ _. refl),
-                    ((refl, refl, refl, λ _. refl, λ _. refl), ((refl, refl, refl, λ _. refl, λ _. refl), ((refl, refl, refl, λ _. refl, λ _. refl), tt))),
+                    (refl, refl, refl, refl, λ _. refl, λ _. refl),
+                    ((refl, refl, refl, refl, λ _. refl, λ _. refl), ((refl, refl, refl, refl, λ _. refl, λ _. refl), ((refl, refl, refl, refl, λ _. refl, λ _. refl), tt))),
                   ),
                 ),
               ),
@@ -99,14 +100,14 @@ unfolding first_no says length_right? edition_right? steps_right? counts_right? 
     settle fits? from keep each? any? marks_of candidates places link_between grade_in value deep place_number home home_as bearer first opens? rank digit flat_map ℕ_discrete
     hierarchy role_pairs upward?
 ranked_computing = (
-  (refl, refl, refl, λ _. refl, λ _. refl),
+  (refl, refl, refl, refl, λ _. refl, λ _. refl),
   (
-    (refl, refl, refl, λ _. refl, λ _. refl),
+    (refl, refl, refl, refl, λ _. refl, λ _. refl),
     (
-      (refl, refl, refl, λ _. refl, λ _. refl),
+      (refl, refl, refl, refl, λ _. refl, λ _. refl),
       (
-        (refl, refl, refl, λ _. refl, λ _. refl),
-        ((refl, refl, refl, λ _. refl, λ _. refl), ((refl, refl, refl, λ _. refl, λ _. refl), tt)),
+        (refl, refl, refl, refl, λ _. refl, λ _. refl),
+        ((refl, refl, refl, refl, λ _. refl, λ _. refl), ((refl, refl, refl, refl, λ _. refl, λ _. refl), tt)),
       ),
     ),
   ),
@@ -120,8 +121,8 @@ unfolding first_no says length_right? edition_right? steps_right? counts_right? 
     book_of by_edition sections_of word_at terms_of rules_of pairs_of memberships_of members_of links_of table outcome placement placement_among individuals highest try_each holds? survivors
     settle fits? from keep each? any? marks_of candidates places link_between grade_in value deep place_number home home_as bearer first opens? rank digit flat_map ℕ_discrete
 set_computing = (
-  (refl, refl, refl, λ _. refl, λ _. refl),
-  ((refl, refl, refl, λ _. refl, λ _. refl), ((refl, refl, refl, λ _. refl, λ _. refl), ((refl, refl, refl, λ _. refl, λ _. refl), tt))),
+  (refl, refl, refl, refl, λ _. refl, λ _. refl),
+  ((refl, refl, refl, refl, λ _. refl, λ _. refl), ((refl, refl, refl, refl, λ _. refl, λ _. refl), ((refl, refl, refl, refl, λ _. refl, λ _. refl), tt))),
 )
 
 pub readings_of_sets : Each Reads set_readings
@@ -132,8 +133,8 @@ unfolding first_no says length_right? edition_right? steps_right? counts_right? 
     book_of by_edition sections_of word_at terms_of rules_of pairs_of memberships_of members_of links_of table outcome placement placement_among individuals highest try_each holds? survivors
     settle fits? from keep each? any? marks_of candidates places link_between grade_in value deep place_number home home_as bearer first opens? rank digit flat_map ℕ_discrete
 name_computing = (
-  (refl, refl, refl, λ _. refl, λ _. refl),
-  ((refl, refl, refl, λ _. refl, λ _. refl), ((refl, refl, refl, λ _. refl, λ _. refl), ((refl, refl, refl, λ _. refl, λ _. refl), tt))),
+  (refl, refl, refl, refl, λ _. refl, λ _. refl),
+  ((refl, refl, refl, refl, λ _. refl, λ _. refl), ((refl, refl, refl, refl, λ _. refl, λ _. refl), ((refl, refl, refl, refl, λ _. refl, λ _. refl), tt))),
 )
 
 pub readings_of_names : Each Reads name_readings

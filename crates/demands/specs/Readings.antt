@@ -27,7 +27,8 @@ use Rattle.book.specs.Reading.{book_of}
 use Rattle.counter.specs.Counting.{few_candidates?, candidate_questions}
 use Rattle.asking.specs.Asking.{graded_by, link_answer}
 use Rattle.marking.specs.Marking.{marked_in}
-use Rattle.decisions.specs.Decided.{outcome_numbered, decision, placed_in}
+use Rattle.decisions.specs.Decided.{outcome_number, decision, placed_in}
+use Rattle.decisions.specs.declared.Decision.{Decision}
 use Rattle.decider.specs.Deciding.{decision_of, marks_after, placement_after, Decidable}
 use Rattle.decider.proofs.Deciding as Deciding
 use Rattle.marking.proofs.Marking as Marks
@@ -50,7 +51,7 @@ abbrev pub Reads : Reading → Type 0
 Reads (link_reading b c d l) = link_answer b 0 c d ≡ Ok l
 Reads (book_reading b o k ms ps) =
     (marks buffer : List ℕ) → length ms ≤ length marks → 16 ≤ length buffer
-    → (decision_of b (length marks) (length buffer) ≡ Ok (record { outcome = outcome_numbered o; survivors = k }))
+    → ((d : Decision) × (decision_of b (length marks) (length buffer) ≡ Ok d) × (outcome_number d.outcome ≡ o) × (d.survivors ≡ k))
     × (marks_after b (length buffer) marks ≡ ms ++ drop (length ms) marks)
     × (placement_after b (length marks) buffer ≡ ps ++ drop (length ps) buffer)
 
