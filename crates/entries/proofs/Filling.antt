@@ -22,7 +22,7 @@ use Rattle.slots.specs.Rows.{SlotRow}
 use Rattle.grades.specs.Rows.{HasGrades}
 use Rattle.elimination.specs.Survivors.{Obeys}
 use Rattle.elimination.specs.Marks.{Marked, marked?}
-use Rattle.partition.specs.Rows.{Enrolled}
+use Rattle.partition.specs.Rows.{Names, Enrolled}
 use Rattle.partition.specs.declared.Classes.{Classes}
 use Rattle.partition.proofs.Rows.{classified_none, classified_more}
 use Rattle.rule_marks.specs.Obeying.{RowObeys}
@@ -54,6 +54,10 @@ entered_none G rs slots S T marks m n = record {
   counted = refl;
   at_most = omega arith;
 }
+
+-- an empty index names nothing
+pub index-none : (index : List ℕ) (k : ℕ) → ((i : ℕ) → get_or index i 0 ≡ 0) → Names index k
+index-none index k z i = omega (arith, z i)
 
 -- the parts of a row of slots, as code cuts them
 module _ (slots : List ℕ) (f : ℕ → ℕ) (part : List ℕ) (w : SlotRow slots f part) where
