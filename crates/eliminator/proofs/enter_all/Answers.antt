@@ -1,5 +1,7 @@
 -- `eliminator::enter_all` meets its contract. The candidates below `c` are entered, and each index names classes that there are.
 -- Assumes nothing.
+use Prim.Native.Nat.{ℕ}
+use native.Mathlib.Omega.{arith}
 use lib.ListN.{replicate}
 use Rattle.chain.proofs.Lists.{zeros-at}
 use Rattle.entries.specs.Lent.{grading_of, rules_in}
@@ -10,10 +12,11 @@ pub loop-c-init : goal.loop-c-init
 loop-c-init c =
     let a = c.args in
     let t = a.theory.now in
+    let empty = λ (k : ℕ). index-none (replicate 16384 0) k (zeros-at 16384) in
     record {
       entered = entered_none (grading_of t) (rules_in t) t.slots.now a.sources.now a.targets.now a.marks.now c.requires.1 c.requires.2;
-      first = index-none (replicate 16384 0) a.sources.now.count (zeros-at 16384);
-      second = index-none (replicate 16384 0) a.targets.now.count (zeros-at 16384);
+      first = λ i. omega (arith, empty a.sources.now.count i);
+      second = λ i. omega (arith, empty a.targets.now.count i);
     }
 
 pub loop-c-preserved : goal.loop-c-preserved
